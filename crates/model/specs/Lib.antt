@@ -1,0 +1,13 @@
+pub mod Numbers
+pub mod Words
+pub mod Records
+pub mod WellFormed
+pub mod Outcome
+pub mod Fresh
+pub mod Effective
+pub mod Transitions
+pub mod Calls
+pub mod Administration
+pub mod Step
+pub mod Claims
+pub mod Runs

@@ -1,0 +1,60 @@
+// Sets of numbers below 32, each held in one word: whether a number is in one, with it, without it, how many.
+ghost use mathlib.Core.Path.{_≡_};
+ghost use Rattle.sets.specs.Sets.{has as hasOf, added, removed, sizeOf};
+
+// A set: number i is in it where bit i is 1.
+pub struct RoleSet {
+    pub bits: u32,
+}
+
+impl RoleSet {
+    // Whether i is in the set; no number past 31 is.
+    pub fn has(self, i: u32) -> bool
+        ensures { λ r. ⌜ r ≡ hasOf (self .bits) i ⌝ }
+    {
+        if i < 32 {
+            (self.bits >> i) % 2 == 1
+        } else {
+            false
+        }
+    }
+
+    // The set with i in it; a number past 31 hands the set back.
+    pub fn add(self, i: u32) -> RoleSet
+        ensures { λ r. ⌜ r .bits ≡ added (self .bits) i ⌝ }
+    {
+        if self.has(i) | (i >= 32) {
+            return self;
+        }
+        RoleSet {
+            bits: self.bits + (1 << i),
+        }
+    }
+
+    // The set without i.
+    pub fn remove(self, i: u32) -> RoleSet
+        ensures { λ r. ⌜ r .bits ≡ removed (self .bits) i ⌝ }
+    {
+        if self.has(i) {
+            return RoleSet {
+                bits: self.bits - (1 << i),
+            };
+        }
+        self
+    }
+
+    // How many numbers are in the set.
+    pub fn size(self) -> u32
+        ensures { λ r. ⌜ r ≡ sizeOf (self .bits) ⌝ }
+    {
+        let mut n: u32 = 0;
+        let mut i: u32 = 0;
+        while i < 32 {
+            if self.has(i) {
+                n += 1;
+            }
+            i += 1;
+        }
+        n
+    }
+}
