@@ -2,6 +2,8 @@
 // Their meaning is in specs/, in the order of the scope document.
 use sets::RoleSet;
 
+pub mod numbers;
+
 // What stands at a file place.
 pub enum Kind {
     Free,
