@@ -15,10 +15,12 @@ use Rattle.model.specs.Words.{block, put}
 use Rattle.model.specs.Records.{kindOf, initialOf, forcedOf, forcedWord, processAt, putProcess, fileAt, putFile, fileWord, ipcAt, putIpc, roleAt, userRole, hasRight, occupied, freePlace}
 use Rattle.model.specs.WellFormed.{processOk, userOk, roleOk, ipcOk, fileOk, wellFormed}
 use Rattle.model.specs.Fresh.{fresh}
-use Rattle.model.specs.Effective.{Climbed, climb, effective, effType, effInitial, effForced, typeOf}
+use Rattle.model.specs.declared.Climbed.{Climbed}
+use Rattle.model.specs.Effective.{climb, effective, effType, effInitial, effForced, typeOf}
 use Rattle.model.specs.Transitions.{defaultOr, chownType, cloned, executed, chowned, withRole, created}
 use Rattle.model.specs.Calls.{ownRole, may, accessNo, cloneNo, cloneRow, exitNo, exitRow, executeNo, executeRow, changeOwnerNo, roleUnder, changeOwnerRow, changeRoleNo, changeRoleRow, createNo, createRow}
 use Rattle.model.specs.Administration.{passes, changeSetNo, changeSetRow, setUserRoleNo, setUserRoleRow, assignRoleNo, setInitialRow, setForcedRow, setDefaultTypeNo, setDefaultTypeRow, changeRightNo, changeRightRow}
+use Rattle.model.specs.Outcome.{decide}
 use Rattle.model.specs.Step.{act, step}
 use Rattle.model.specs.Claims.{someRoleTo, toSome, startable, carried, C1, C2, C3, C4, C5, C6, C7, C8, C9, assignsNothing, createsInside, holds, broken, claimNo, check}
 use Rattle.model.specs.Runs.{Asked}
@@ -102,7 +104,7 @@ climbedTo e = e .value ∷ e .climbed ∷ []
 
 -- every call of the night is granted, so that each right needed is held
 pub night-granted : numbers fresh (evening ++ morning ++ chain 15 0 4) ≡ replicate 49 0
-unfolding fresh act accessNo cloneNo cloneRow executeNo executeRow changeOwnerNo roleUnder changeOwnerRow changeRoleNo changeRoleRow createNo createRow exitNo exitRow changeSetNo changeSetRow setUserRoleNo setUserRoleRow assignRoleNo setInitialRow setForcedRow setDefaultTypeNo setDefaultTypeRow changeRightNo changeRightRow passes ownRole may kindOf initialOf forcedOf processAt putProcess putFile fileWord roleAt ipcAt userRole hasRight occupied freePlace climb effective effType effInitial effForced typeOf defaultOr chownType cloned executed chowned withRole created block put firstBelow has added numbers evening morning setup executes chain
+unfolding fresh act decide accessNo cloneNo cloneRow executeNo executeRow changeOwnerNo roleUnder changeOwnerRow changeRoleNo changeRoleRow createNo createRow exitNo exitRow changeSetNo changeSetRow setUserRoleNo setUserRoleRow assignRoleNo setInitialRow setForcedRow setDefaultTypeNo setDefaultTypeRow changeRightNo changeRightRow passes ownRole may kindOf initialOf forcedOf processAt putProcess putFile fileWord roleAt ipcAt userRole hasRight occupied freePlace climb effective effType effInitial effForced typeOf defaultOr chownType cloned executed chowned withRole created block put firstBelow has added numbers evening morning setup executes chain
 night-granted = refl
 
 -- a1 to a10: what each comes to, in one list
@@ -132,4 +134,4 @@ pub examples : (
     ∷ (9 ∷ 2 ∷ [])
     ∷ []
 unfolding step check claimNo
-examples = rw fresh-ok (unfold fresh act accessNo cloneNo cloneRow executeNo executeRow changeOwnerNo roleUnder changeOwnerRow changeRoleNo changeRoleRow createNo createRow exitNo exitRow changeSetNo changeSetRow setUserRoleNo setUserRoleRow assignRoleNo setInitialRow setForcedRow setDefaultTypeNo setDefaultTypeRow changeRightNo changeRightRow passes ownRole may kindOf initialOf forcedOf processAt putProcess putFile fileWord roleAt ipcAt userRole hasRight occupied freePlace climb effective effType effInitial effForced typeOf defaultOr chownType cloned executed chowned withRole created block put firstBelow has added after evening morning setup executes chain shown claim broken C1 C2 allBelow in refl)
+examples = rw fresh-ok (unfold fresh act decide accessNo cloneNo cloneRow executeNo executeRow changeOwnerNo roleUnder changeOwnerRow changeRoleNo changeRoleRow createNo createRow exitNo exitRow changeSetNo changeSetRow setUserRoleNo setUserRoleRow assignRoleNo setInitialRow setForcedRow setDefaultTypeNo setDefaultTypeRow changeRightNo changeRightRow passes ownRole may kindOf initialOf forcedOf processAt putProcess putFile fileWord roleAt ipcAt userRole hasRight occupied freePlace climb effective effType effInitial effForced typeOf defaultOr chownType cloned executed chowned withRole created block put firstBelow has added after evening morning setup executes chain shown claim broken C1 C2 allBelow in refl)

@@ -1,1 +1,9 @@
 pub mod Words
+pub mod Granted
+pub mod Records
+pub mod Formed
+pub mod Effective
+pub mod Transitions
+pub mod Places
+pub mod Kept
+pub mod Created

@@ -108,9 +108,12 @@ createRow t c kind y = putFile t (freePlace t FILESYSTEM) (created (ownRole t c)
 
 -- ---- delete file or directory: DELETE to its effective type; the place becomes free
 
--- no other occupied place has o as its parent
+-- place q holds no child of o: the root is nobody's child
+unfoldable pub notChild : List ℕ → ℕ → ℕ → Bool
+notChild t o q = eqb q 0 || not (occupied t FILESYSTEM q) || not (eqb (fileWord t q 1) o)
+
 unfoldable pub childless : List ℕ → ℕ → Bool
-childless t o = allBelow FILES (λ q. eqb q 0 || not (occupied t FILESYSTEM q) || not (eqb (fileWord t q 1) o))
+childless t o = allBelow FILES (notChild t o)
 
 -- neither the root nor a DIR with children
 unfoldable pub removable : List ℕ → ℕ → Bool

@@ -4,16 +4,13 @@ use Prim.Native.Nat.{ℕ, zero, suc, _+_, _%_}
 use mathlib.Core.Bool.{Bool, cond}
 use mathlib.Core.List.{List}
 use lib.Dec.{ltb, eqb}
+use Rattle.model.specs.declared.Climbed.{Climbed}
 use Rattle.model.specs.declared.Found.{Found}
 use Rattle.model.specs.Numbers.{_unless_, _▹_, FILESYSTEM, FILES, INHERIT-PARENT, USE-FORCED-ROLE, UP-MIXED}
 use Rattle.model.specs.Records.{fileWord, processAt, ipcAt, occupied, byGroup}
 use Rattle.model.specs.WellFormed.{wellFormed}
 
 -- a value, and the number of parents climbed to it
-pub record Climbed : Type 0 where
-  pub value : ℕ
-  pub climbed : ℕ
-
 abbrev pub climbed : ℕ → ℕ → Climbed
 climbed v n = record { value = v; climbed = n }
 

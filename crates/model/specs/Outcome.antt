@@ -12,6 +12,6 @@ abbrev pub outcome : Answer → List ℕ → Outcome
 outcome a u = record { answer = a; after = u }
 
 -- number 0 grants: the place is answered and the row is u; any other number refuses: place 0, the row t as found
-abbrev pub decide : List ℕ → ℕ → ℕ → List ℕ → Outcome
+unfoldable pub decide : List ℕ → ℕ → ℕ → List ℕ → Outcome
 decide t zero place u = outcome (record { number = 0; place = place }) u
 decide t (suc n) place u = outcome (record { number = suc n; place = 0 }) t

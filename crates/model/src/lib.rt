@@ -148,13 +148,21 @@ pub enum Call {
     },
 }
 
+// An effective value, and the number of parents climbed to it.
+pub struct Climbed {
+    pub value: u32,
+    pub climbed: u32,
+}
+
 // What a call is answered: 0 and the place that a grant gives, or the number of the refusal and 0.
+#[repr(C)]
 pub struct Answer {
     pub number: u32,
     pub place: u32,
 }
 
 // What a query is answered: 0, the value and the parents climbed, or the number of the refusal and zeros.
+#[repr(C)]
 pub struct Found {
     pub number: u32,
     pub value: u32,
@@ -162,6 +170,7 @@ pub struct Found {
 }
 
 // What a claim is answered: 0 and 0, 9 and the first rule broken, or another number and 0.
+#[repr(C)]
 pub struct Verdict {
     pub number: u32,
     pub rule: u32,

@@ -1,0 +1,47 @@
+-- A file, a process, or else an IPC object.
+-- Assumes nothing.
+use borrow.Author.Tests.{eq-eqb, ne-eqb}
+use borrow.Author.Needs.{needs}
+use Rattle.administration.proofs.objects.type_addr.Statement.{statement}
+use Rattle.administration.proofs.objects.type_addr.Tie as tie
+
+file-addr-requires : tie.Need-file-addr-requires
+file-addr-requires c κs = search needs
+
+add-result : tie.Need-add-result
+add-result c = search needs
+
+process-addr-requires : tie.Need-process-addr-requires
+process-addr-requires c κs = search needs
+
+add-result-2 : tie.Need-add-result-2
+add-result-2 c = search needs
+
+ipc-addr-requires : tie.Need-ipc-addr-requires
+ipc-addr-requires c κs = search needs
+
+add-result-3 : tie.Need-add-result-3
+add-result-3 c = search needs
+
+returns : tie.Need-returns
+returns c = rw (eq-eqb _ 0 (c .before .if1 .taken)) (cc)
+
+returns-2 : tie.Need-returns-2
+returns-2 c = rw (ne-eqb _ 0 (c .before .before .if1 .left), eq-eqb _ 1 (c .before .if2 .taken)) (cc)
+
+returns-3 : tie.Need-returns-3
+returns-3 c = rw (ne-eqb _ 0 (c .before .before .if1 .left), ne-eqb _ 1 (c .before .if2 .left)) (cc)
+
+pub type-addr-spec : {M : Type 1} → statement M
+type-addr-spec =
+    tie.close
+    (tie.spec
+    file-addr-requires
+    add-result
+    process-addr-requires
+    add-result-2
+    ipc-addr-requires
+    add-result-3
+    returns
+    returns-2
+    returns-3)

@@ -1,0 +1,62 @@
+-- The tests in their order, and the set that the definition writes.
+-- Assumes nothing.
+use mathlib.Core.Path.{_∙_}
+use Rattle.model.specs.Administration.{changeSetNo, changeSetRow}
+use Rattle.model.proofs.Granted.{decides}
+use borrow.Author.Needs.{needs}
+use Rattle.administration.proofs.roles.change_set.Statement.{statement}
+use Rattle.administration.proofs.roles.change_set.Tie as tie
+
+may-assign-requires : tie.Need-may-assign-requires
+may-assign-requires c κs = search needs
+
+may-admin-requires : tie.Need-may-admin-requires
+may-admin-requires c κs = search needs
+
+caller-no-requires : tie.Need-caller-no-requires
+caller-no-requires c κs = search needs
+
+passes-requires : tie.Need-passes-requires
+passes-requires c κs = search needs
+
+unless-requires : tie.Need-unless-requires
+unless-requires c κs = search needs
+
+first-requires : tie.Need-first-requires
+first-requires c κs = search needs
+
+role-addr-requires : tie.Need-role-addr-requires
+role-addr-requires c κs = search needs
+
+add-at : tie.Need-add-at
+add-at c = search needs
+
+changed-requires : tie.Need-changed-requires
+changed-requires c κs = search needs
+
+write-requires : tie.Need-write-requires
+write-requires c κs = search needs
+
+same-length : tie.Need-same-length
+same-length c = search needs
+
+returns : tie.Need-returns
+unfolding changeSetNo changeSetRow
+returns c = c .before .before .write .ensures ∙ decides _ _ _ _ _ _ (cc) (simp (c .before .before .before .before .changed .ensures, c .before .before .before .before .before .before .role-addr .ensures))
+
+pub change-set-spec : {M : Type 1} → statement M
+change-set-spec =
+    tie.close
+    (tie.spec
+    may-assign-requires
+    may-admin-requires
+    caller-no-requires
+    passes-requires
+    unless-requires
+    first-requires
+    role-addr-requires
+    add-at
+    changed-requires
+    write-requires
+    same-length
+    returns)

@@ -1,0 +1,60 @@
+// The process that makes a call: whether it may ask at all, its own role, and what that role allows.
+use model::Role;
+use model::numbers::PROCESS;
+use model::numbers::PROCESSES;
+use rules::refusal::first;
+use rules::refusal::unless;
+use tables::places::occupied;
+use tables::records::has_right;
+use tables::records::process_at;
+use tables::records::role_at;
+ghost use mathlib.Core.Path.{_≡_};
+ghost use Rattle.model.specs.Calls.{callerNo, ownRole, may as mayOf};
+ghost use Rattle.model.specs.Administration.{passes as passesOf, mayAssign, mayAdmin};
+
+// Numbers 2 and 3: the call's numbers are in range, and the caller is live.
+pub fn caller_no(t: &[u32], caller: u32, ranged: bool) -> u32
+    ensures { λ r. ⌜ r ≡ callerNo (now (t .entry)) caller ranged ⌝ }
+{
+    first(
+        unless(2, (caller < PROCESSES) & ranged),
+        unless(3, occupied(t, PROCESS, caller)),
+    )
+}
+
+// Own role: the caller's current role.
+pub fn own_role(t: &[u32], caller: u32) -> Role
+    ensures { λ r. ⌜ r ≡ ownRole (now (t .entry)) caller ⌝ }
+{
+    role_at(t, process_at(t, caller).role)
+}
+
+// Rule 16: own role has the right to a type of a group.
+pub fn may(t: &[u32], caller: u32, group: u32, rctype: u32, right: u32) -> bool
+    ensures { λ r. ⌜ r ≡ mayOf (now (t .entry)) caller group rctype right ⌝ }
+{
+    has_right(t, group, process_at(t, caller).role, rctype, right)
+}
+
+// H4: Role Admin passes every test of rules 23 to 34.
+pub fn passes(t: &[u32], caller: u32, rule: bool) -> bool
+    ensures { λ r. ⌜ r ≡ passesOf (now (t .entry)) caller rule ⌝ }
+{
+    own_role(t, caller).mark | rule
+}
+
+// A role is in own assign roles.
+pub fn may_assign(t: &[u32], caller: u32, role: u32) -> bool
+    ensures { λ r. ⌜ r ≡ mayAssign (now (t .entry)) caller role ⌝ }
+{
+    let assign = own_role(t, caller).assign;
+    assign.has(role)
+}
+
+// A role is in own admin roles (rule 23).
+pub fn may_admin(t: &[u32], caller: u32, role: u32) -> bool
+    ensures { λ r. ⌜ r ≡ mayAdmin (now (t .entry)) caller role ⌝ }
+{
+    let admin = own_role(t, caller).admin;
+    admin.has(role)
+}

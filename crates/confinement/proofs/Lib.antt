@@ -1,0 +1,11 @@
+pub mod Claim
+pub mod Invariant
+pub mod Processes
+pub mod Writes
+pub mod Steps
+pub mod Callers
+pub mod ProcessCalls
+pub mod ObjectCalls
+pub mod Administration
+pub mod Calls
+pub mod Confinement

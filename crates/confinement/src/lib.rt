@@ -1,0 +1,1 @@
+// That an accepted claim confines is proved in proofs/: this crate has no code.

@@ -1,0 +1,20 @@
+-- The definition's own climb; the remainder that it starts with bounds what it counts.
+use native.Mathlib.Omega.{arith}
+use borrow.Author.Needs.{needs}
+use Rattle.model.specs.Effective.{effective}
+use Rattle.effective.proofs.Laws.{bound-of}
+use Rattle.effective.proofs.effective.Statement.{statement}
+use Rattle.effective.proofs.effective.Tie as tie
+
+file-word-requires : tie.Need-file-word-requires
+file-word-requires c κs = search needs
+
+climb-requires : tie.Need-climb-requires
+climb-requires c κs = search needs
+
+returns : tie.Need-returns
+unfolding effective
+returns c = (cc, omega (arith, bound-of _ _ _ _ _ _ (c .climb .ensures)))
+
+pub effective-spec : {M : Type 1} → statement M
+effective-spec = tie.close (tie.spec file-word-requires climb-requires returns)

@@ -1,0 +1,51 @@
+-- Each return rewrites by the tests that led to it; the words of the parent are those of its block.
+use native.Mathlib.Nat.{add-zero}
+use borrow.Author.Tests.{eq-eqb, ne-eqb, lt-ltb, le-ltb}
+use Rattle.model.specs.Words.{block}
+use borrow.Author.Needs.{needs}
+use Rattle.formed.proofs.records.link_ok.Statement.{statement}
+use Rattle.formed.proofs.records.link_ok.Tie as tie
+
+returns : tie.Need-returns
+returns c = rw (eq-eqb _ 0 (c .if1 .taken))
+
+returns-2 : tie.Need-returns-2
+returns-2 c = rw (ne-eqb _ 0 (c .before .if1 .left), le-ltb _ 256 (c .if2 .taken))
+
+file-addr-requires : tie.Need-file-addr-requires
+file-addr-requires c κs = search needs
+
+word-requires : tie.Need-word-requires
+word-requires c κs = search needs
+
+add-word : tie.Need-add-word
+add-word c = search needs
+
+word-requires-2 : tie.Need-word-requires-2
+word-requires-2 c κs = search needs
+
+cast-result : tie.Need-cast-result
+cast-result c = search needs
+
+add-result : tie.Need-add-result
+add-result c = search needs
+
+returns-3 : tie.Need-returns-3
+unfolding block
+returns-3 c =
+    let b = c .before .before .before in
+    rw (ne-eqb _ 0 (b .before .if1 .left), lt-ltb _ 256 (b .if2 .left), add-zero) (cc)
+
+pub link-ok-spec : {M : Type 1} → statement M
+link-ok-spec =
+    tie.close
+    (tie.spec
+    returns
+    returns-2
+    file-addr-requires
+    word-requires
+    add-word
+    word-requires-2
+    cast-result
+    add-result
+    returns-3)

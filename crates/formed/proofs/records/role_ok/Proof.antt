@@ -1,0 +1,68 @@
+-- The words that are tested are those of the record's block.
+use Rattle.model.specs.Words.{block}
+use Rattle.model.specs.WellFormed.{roleOk}
+use borrow.Author.Needs.{needs}
+use Rattle.formed.proofs.records.role_ok.Statement.{statement}
+use Rattle.formed.proofs.records.role_ok.Tie as tie
+
+role-addr-requires : tie.Need-role-addr-requires
+role-addr-requires c κs = search needs
+
+add-word : tie.Need-add-word
+add-word c = search needs
+
+word-requires : tie.Need-word-requires
+word-requires c κs = search needs
+
+add-word-2 : tie.Need-add-word-2
+add-word-2 c = search needs
+
+word-requires-2 : tie.Need-word-requires-2
+word-requires-2 c κs = search needs
+
+add-word-3 : tie.Need-add-word-3
+add-word-3 c = search needs
+
+word-requires-3 : tie.Need-word-requires-3
+word-requires-3 c κs = search needs
+
+add-word-4 : tie.Need-add-word-4
+add-word-4 c = search needs
+
+word-requires-4 : tie.Need-word-requires-4
+word-requires-4 c κs = search needs
+
+add-word-5 : tie.Need-add-word-5
+add-word-5 c = search needs
+
+word-requires-5 : tie.Need-word-requires-5
+word-requires-5 c κs = search needs
+
+add-word-6 : tie.Need-add-word-6
+add-word-6 c = search needs
+
+word-requires-6 : tie.Need-word-requires-6
+word-requires-6 c κs = search needs
+
+returns : tie.Need-returns
+unfolding roleOk block
+returns c = cc
+
+pub role-ok-spec : {M : Type 1} → statement M
+role-ok-spec =
+    tie.close
+    (tie.spec
+    role-addr-requires
+    add-word
+    word-requires
+    add-word-2
+    word-requires-2
+    add-word-3
+    word-requires-3
+    add-word-4
+    word-requires-4
+    add-word-5
+    word-requires-5
+    add-word-6
+    word-requires-6
+    returns)

@@ -1,0 +1,42 @@
+-- The invariant: ok says whether every place below k is well formed.
+use Prim.Native.Nat.{_≤_, _-_}
+use mathlib.Core.Path.{_≡_, refl}
+use native.Mathlib.Omega.{arith}
+use borrow.Author.Needs.{needs}
+use Rattle.sets.specs.Below.{allBelow}
+use Rattle.sets.proofs.Below.{all-next}
+use Rattle.model.specs.WellFormed.{ipcOk}
+use Rattle.formed.proofs.walks.ipcs_ok.Statement.{statement}
+use Rattle.formed.proofs.walks.ipcs_ok.Tie as tie
+
+abbrev Inv-loop : tie.InvT-loop
+Inv-loop t ok₀ k₀ ok k = (ok ≡ allBelow k (ipcOk t)) × (k ≤ 64)
+
+abbrev μ-loop : tie.MeasureT-loop
+μ-loop t ok₀ k₀ ok k = 64 - k
+
+loop-holds : tie.Need-loop-holds Inv-loop μ-loop
+unfolding allBelow
+loop-holds c = (refl, search needs)
+
+ipc-ok-requires : tie.Need-ipc-ok-requires Inv-loop μ-loop
+ipc-ok-requires c κs = search needs
+
+add-k : tie.Need-add-k Inv-loop μ-loop
+add-k c = search needs
+
+loop-less : tie.Need-loop-less Inv-loop μ-loop
+loop-less c = search needs
+
+loop-again : tie.Need-loop-again Inv-loop μ-loop
+loop-again c = (rw all-next (cc), search needs)
+
+returns : tie.Need-returns Inv-loop μ-loop
+returns c =
+    let e : c .before .loop .k ≡ 64 = omega arith in
+    rw (← e) (c .before .loop .inv .0)
+
+pub ipcs-ok-spec : {M : Type 1} → statement M
+ipcs-ok-spec =
+    tie.close
+    (tie.spec Inv-loop μ-loop loop-holds ipc-ok-requires add-k loop-less loop-again returns)

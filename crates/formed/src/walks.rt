@@ -1,0 +1,74 @@
+// One walk over each table. The verdict is carried along, since a row is well formed nearly always.
+use crate::records::file_ok;
+use crate::records::ipc_ok;
+use crate::records::process_ok;
+use crate::records::role_ok;
+use crate::records::user_ok;
+use model::numbers::FILES;
+use model::numbers::IPCS;
+use model::numbers::PROCESSES;
+use model::numbers::ROLES;
+use model::numbers::USERS;
+ghost use mathlib.Core.Path.{_≡_};
+ghost use Rattle.sets.specs.Below.{allBelow};
+ghost use Rattle.model.specs.WellFormed.{processOk, userOk, roleOk, ipcOk, fileOk};
+
+pub fn processes_ok(t: &[u32]) -> bool
+    ensures { λ r. ⌜ r ≡ allBelow 64 (processOk (now (t .entry))) ⌝ }
+{
+    let mut ok = true;
+    let mut k = 0;
+    while k < PROCESSES {
+        ok = ok & process_ok(t, k);
+        k += 1;
+    }
+    ok
+}
+
+pub fn users_ok(t: &[u32]) -> bool
+    ensures { λ r. ⌜ r ≡ allBelow 32 (userOk (now (t .entry))) ⌝ }
+{
+    let mut ok = true;
+    let mut k = 0;
+    while k < USERS {
+        ok = ok & user_ok(t, k);
+        k += 1;
+    }
+    ok
+}
+
+pub fn roles_ok(t: &[u32]) -> bool
+    ensures { λ r. ⌜ r ≡ allBelow 32 (roleOk (now (t .entry))) ⌝ }
+{
+    let mut ok = true;
+    let mut k = 0;
+    while k < ROLES {
+        ok = ok & role_ok(t, k);
+        k += 1;
+    }
+    ok
+}
+
+pub fn ipcs_ok(t: &[u32]) -> bool
+    ensures { λ r. ⌜ r ≡ allBelow 64 (ipcOk (now (t .entry))) ⌝ }
+{
+    let mut ok = true;
+    let mut k = 0;
+    while k < IPCS {
+        ok = ok & ipc_ok(t, k);
+        k += 1;
+    }
+    ok
+}
+
+pub fn files_ok(t: &[u32]) -> bool
+    ensures { λ r. ⌜ r ≡ allBelow 256 (fileOk (now (t .entry))) ⌝ }
+{
+    let mut ok = true;
+    let mut k = 0;
+    while k < FILES {
+        ok = ok & file_ok(t, k);
+        k += 1;
+    }
+    ok
+}

@@ -1,0 +1,20 @@
+-- The three tables of objects are searched alike: records of one length, one after the other, whose first word is 0 where the place is free.
+use Prim.Native.Nat.{ℕ, _+_, _*_}
+use mathlib.Core.Path.{_≡_, refl}
+use mathlib.Core.Bool.{Bool, true, false, not}
+use mathlib.Core.List.{List}
+use lib.Dec.{eqb}
+use Rattle.sets.specs.Below.{firstBelow}
+use Rattle.sets.proofs.Below.{first-same}
+use Rattle.model.specs.Words.{_!_}
+use Rattle.model.specs.Records.{places, placeAddr, occupied, freePlace}
+
+not-not : (b : Bool) → b ≡ not (not b)
+not-not true = refl
+not-not false = refl
+
+pub free-in : (t : List ℕ) (g base stride count : ℕ) → places g ≡ count → ((p : ℕ) → placeAddr g p ≡ base + p * stride)
+    → firstBelow count (λ p. eqb (t ! (base + p * stride)) 0) ≡ freePlace t g
+unfolding freePlace occupied
+free-in t g base stride count e a =
+    rw e (first-same _ _ count (λ p l. rw (a p) (not-not (eqb (t ! (base + p * stride)) 0))))

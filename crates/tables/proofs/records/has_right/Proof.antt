@@ -1,0 +1,21 @@
+-- The word that is read is the definition's, and `has` says the rest.
+use Rattle.model.specs.Records.{hasRight}
+use borrow.Author.Needs.{needs}
+use Rattle.tables.proofs.records.has_right.Statement.{statement}
+use Rattle.tables.proofs.records.has_right.Tie as tie
+
+rights-addr-requires : tie.Need-rights-addr-requires
+rights-addr-requires c κs = search needs
+
+word-requires : tie.Need-word-requires
+word-requires c κs = search needs
+
+has-requires : tie.Need-has-requires
+has-requires c κs = search needs
+
+returns : tie.Need-returns
+unfolding hasRight
+returns c = cc
+
+pub has-right-spec : {M : Type 1} → statement M
+has-right-spec = tie.close (tie.spec rights-addr-requires word-requires has-requires returns)

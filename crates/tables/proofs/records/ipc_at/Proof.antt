@@ -1,0 +1,26 @@
+-- The words that are read are those of the record's block.
+use Rattle.model.specs.Words.{block}
+use Rattle.model.specs.Records.{ipcAt}
+use native.Mathlib.Nat.{add-zero}
+use borrow.Author.Needs.{needs}
+use Rattle.tables.proofs.records.ipc_at.Statement.{statement}
+use Rattle.tables.proofs.records.ipc_at.Tie as tie
+
+ipc-addr-requires : tie.Need-ipc-addr-requires
+ipc-addr-requires c κs = search needs
+
+word-requires : tie.Need-word-requires
+word-requires c κs = search needs
+
+add-word : tie.Need-add-word
+add-word c = search needs
+
+word-requires-2 : tie.Need-word-requires-2
+word-requires-2 c κs = search needs
+
+returns : tie.Need-returns
+unfolding ipcAt block
+returns c = rw add-zero (cc)
+
+pub ipc-at-spec : {M : Type 1} → statement M
+ipc-at-spec = tie.close (tie.spec ipc-addr-requires word-requires add-word word-requires-2 returns)

@@ -1,0 +1,54 @@
+// Where the record of each place begins in the row; any number has an address, also past its table.
+use model::numbers::FILE_WORDS;
+use model::numbers::FILES_AT;
+use model::numbers::GROUP_RIGHTS;
+use model::numbers::IPC_WORDS;
+use model::numbers::IPCS_AT;
+use model::numbers::PROCESS_WORDS;
+use model::numbers::RIGHTS_AT;
+use model::numbers::ROLE_WORDS;
+use model::numbers::ROLES_AT;
+use model::numbers::TYPES;
+use model::numbers::USERS_AT;
+ghost use mathlib.Core.Path.{_≡_};
+ghost use Rattle.model.specs.Records.{processAddr, userAddr, roleAddr, ipcAddr, fileAddr, rightsAddr};
+
+pub fn process_addr(p: u32) -> usize
+    ensures { λ r. ⌜ r ≡ processAddr p ⌝ }
+{
+    (p as usize) * PROCESS_WORDS
+}
+
+pub fn user_addr(u: u32) -> usize
+    ensures { λ r. ⌜ r ≡ userAddr u ⌝ }
+{
+    USERS_AT + (u as usize)
+}
+
+pub fn role_addr(role: u32) -> usize
+    ensures { λ r. ⌜ r ≡ roleAddr role ⌝ }
+{
+    ROLES_AT + (role as usize) * ROLE_WORDS
+}
+
+pub fn ipc_addr(i: u32) -> usize
+    ensures { λ r. ⌜ r ≡ ipcAddr i ⌝ }
+{
+    IPCS_AT + (i as usize) * IPC_WORDS
+}
+
+pub fn file_addr(o: u32) -> usize
+    ensures { λ r. ⌜ r ≡ fileAddr o ⌝ }
+{
+    FILES_AT + (o as usize) * FILE_WORDS
+}
+
+// A role's set of rights to a type of a group.
+pub fn rights_addr(group: u32, role: u32, rctype: u32) -> usize
+    ensures { λ r. ⌜ r ≡ rightsAddr group role rctype ⌝ }
+{
+    RIGHTS_AT
+        + (group as usize) * GROUP_RIGHTS
+        + (role as usize) * (TYPES as usize)
+        + (rctype as usize)
+}

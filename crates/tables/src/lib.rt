@@ -1,0 +1,6 @@
+// The tables in one lent row of words: its words, its addresses, its records by value, its places.
+pub mod addresses;
+pub mod cases;
+pub mod places;
+pub mod records;
+pub mod words;

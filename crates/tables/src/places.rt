@@ -1,0 +1,82 @@
+// The places of a group's objects: which are taken, and the lowest that is free.
+use crate::addresses::file_addr;
+use crate::addresses::ipc_addr;
+use crate::addresses::process_addr;
+use crate::words::word;
+use model::numbers::FILE_WORDS;
+use model::numbers::FILES;
+use model::numbers::FILES_AT;
+use model::numbers::FILESYSTEM;
+use model::numbers::IPC_WORDS;
+use model::numbers::IPCS;
+use model::numbers::IPCS_AT;
+use model::numbers::PROCESS;
+use model::numbers::PROCESS_WORDS;
+use model::numbers::PROCESSES;
+ghost use mathlib.Core.Path.{_≡_};
+ghost use Prim.Native.Nat.{_+_, _*_};
+ghost use lib.Dec.{eqb};
+ghost use Rattle.sets.specs.Below.{firstBelow};
+ghost use Rattle.model.specs.Words.{_!_};
+ghost use Rattle.model.specs.Records.{places as placesOf, placeAddr, occupied as occupiedOf, freePlace};
+
+// How many there are.
+pub fn places(group: u32) -> u32
+    ensures { λ r. ⌜ r ≡ placesOf group ⌝ }
+{
+    if group == FILESYSTEM {
+        FILES
+    } else if group == PROCESS {
+        PROCESSES
+    } else {
+        IPCS
+    }
+}
+
+pub fn place_addr(group: u32, p: u32) -> usize
+    ensures { λ r. ⌜ r ≡ placeAddr group p ⌝ }
+{
+    if group == FILESYSTEM {
+        file_addr(p)
+    } else if group == PROCESS {
+        process_addr(p)
+    } else {
+        ipc_addr(p)
+    }
+}
+
+// A place's first word, its live mark or its kind, is 0 where the place is free.
+pub fn occupied(t: &[u32], group: u32, p: u32) -> bool
+    ensures { λ r. ⌜ r ≡ occupiedOf (now (t .entry)) group p ⌝ }
+{
+    word(t, place_addr(group, p)) != 0
+}
+
+// The lowest of count records, stride words each from base, whose first word is 0; count where there is none.
+fn lowest_free(t: &[u32], base: u32, stride: u32, count: u32) -> u32
+    ensures { λ r. ⌜ r ≡ firstBelow count (λ p. eqb (now (t .entry) ! (base + p * stride)) 0) ⌝ }
+{
+    let mut a = base as usize;
+    let mut p: u32 = 0;
+    while p < count {
+        if word(t, a) == 0 {
+            return p;
+        }
+        a += stride as usize;
+        p += 1;
+    }
+    count
+}
+
+// The lowest free place; one past the last where there is none.
+pub fn free_place(t: &[u32], group: u32) -> u32
+    ensures { λ r. ⌜ r ≡ freePlace (now (t .entry)) group ⌝ }
+{
+    if group == FILESYSTEM {
+        lowest_free(t, FILES_AT as u32, FILE_WORDS as u32, FILES)
+    } else if group == PROCESS {
+        lowest_free(t, 0, PROCESS_WORDS as u32, PROCESSES)
+    } else {
+        lowest_free(t, IPCS_AT as u32, IPC_WORDS as u32, IPCS)
+    }
+}

@@ -1,0 +1,20 @@
+// A word of the row. A read past the end is 0 and a write past the end is nothing, so that no caller has to show a bound.
+ghost use mathlib.Core.Path.{_≡_};
+ghost use lib.ListN.{set};
+ghost use Rattle.model.specs.Words.{_!_};
+
+// The word at a.
+pub fn word(t: &[u32], a: usize) -> u32
+    ensures { λ r. ⌜ r ≡ now (t .entry) ! a ⌝ }
+{
+    if a < t.len() { t[a] } else { 0 }
+}
+
+// The row with v at a.
+pub fn set_word(t: &mut [u32], a: usize, v: u32)
+    ensures { λ _. ⌜ now (t .exit) ≡ set (now (t .entry)) a v ⌝ }
+{
+    if a < t.len() {
+        t[a] = v;
+    }
+}
