@@ -36,12 +36,12 @@ abbrev pub asks : ℕ → Call → Asked
 asks c call = record { caller = c; call = call }
 
 -- the row after a list of calls, each by the definition on tables that are well formed
-pub after : List ℕ → List Asked → List ℕ
+unfoldable pub after : List ℕ → List Asked → List ℕ
 after t [] = t
 after t (a ∷ rest) = after (act t (a .caller) (a .call) .after) rest
 
 -- the numbers that a list of calls is answered
-pub numbers : List ℕ → List Asked → List ℕ
+unfoldable pub numbers : List ℕ → List Asked → List ℕ
 numbers t [] = []
 numbers t (a ∷ rest) = let e = act t (a .caller) (a .call) in e .answer .number ∷ numbers (e .after) rest
 

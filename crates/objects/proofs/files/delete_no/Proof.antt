@@ -1,0 +1,58 @@
+use borrow.Author.Needs.{needs}
+use Rattle.objects.proofs.files.delete_no.Statement.{statement}
+use Rattle.objects.proofs.files.delete_no.Tie as tie
+use Rattle.model.specs.Calls.{deleteNo}
+
+eff-type-requires : tie.Need-eff-type-requires
+eff-type-requires c κs = search needs
+
+may-requires : tie.Need-may-requires
+may-requires c κs = search needs
+
+removable-requires : tie.Need-removable-requires
+removable-requires c κs = search needs
+
+caller-no-requires : tie.Need-caller-no-requires
+caller-no-requires c κs = search needs
+
+occupied-requires : tie.Need-occupied-requires
+occupied-requires c κs = search needs
+
+unless-requires : tie.Need-unless-requires
+unless-requires c κs = search needs
+
+unless-requires-2 : tie.Need-unless-requires-2
+unless-requires-2 c κs = search needs
+
+unless-requires-3 : tie.Need-unless-requires-3
+unless-requires-3 c κs = search needs
+
+first-requires : tie.Need-first-requires
+first-requires c κs = search needs
+
+first-requires-2 : tie.Need-first-requires-2
+first-requires-2 c κs = search needs
+
+first-requires-3 : tie.Need-first-requires-3
+first-requires-3 c κs = search needs
+
+returns : tie.Need-returns
+unfolding deleteNo
+returns c = cc
+
+pub delete-no-spec : {M : Type 1} → statement M
+delete-no-spec =
+    tie.close
+    (tie.spec
+    eff-type-requires
+    may-requires
+    removable-requires
+    caller-no-requires
+    occupied-requires
+    unless-requires
+    unless-requires-2
+    unless-requires-3
+    first-requires
+    first-requires-2
+    first-requires-3
+    returns)

@@ -1,0 +1,48 @@
+-- The tests in their order.
+-- Assumes nothing.
+use borrow.Author.Needs.{needs}
+use Rattle.model.specs.Calls.{executeNo}
+use Rattle.processes.proofs.execute_no.Statement.{statement}
+use Rattle.processes.proofs.execute_no.Tie as tie
+
+caller-no-requires : tie.Need-caller-no-requires
+caller-no-requires c κs = search needs
+
+file-word-requires : tie.Need-file-word-requires
+file-word-requires c κs = search needs
+
+unless-requires : tie.Need-unless-requires
+unless-requires c κs = search needs
+
+eff-type-requires : tie.Need-eff-type-requires
+eff-type-requires c κs = search needs
+
+may-requires : tie.Need-may-requires
+may-requires c κs = search needs
+
+unless-requires-2 : tie.Need-unless-requires-2
+unless-requires-2 c κs = search needs
+
+first-requires : tie.Need-first-requires
+first-requires c κs = search needs
+
+first-requires-2 : tie.Need-first-requires-2
+first-requires-2 c κs = search needs
+
+returns : tie.Need-returns
+unfolding executeNo
+returns c = cc
+
+pub execute-no-spec : {M : Type 1} → statement M
+execute-no-spec =
+    tie.close
+    (tie.spec
+    caller-no-requires
+    file-word-requires
+    unless-requires
+    eff-type-requires
+    may-requires
+    unless-requires-2
+    first-requires
+    first-requires-2
+    returns)

@@ -1,0 +1,1 @@
+// What the monitor promises, as theorems named as sentences, is in proofs/Promises.antt: this crate has no code.
