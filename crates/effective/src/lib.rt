@@ -15,6 +15,7 @@ ghost use Rattle.model.specs.Effective.{effective as effectiveOf, effType, effI
 
 mod climbing;
 pub mod queries;
+pub mod values;
 
 // Which word of a file holds what.
 const PARENT: u32 = 1;

@@ -10,18 +10,20 @@ use model::Answer;
 use model::numbers::FILESYSTEM;
 use model::numbers::INHERIT_PARENT;
 use model::numbers::PROCESS;
+use model::numbers::ROLE_SETS;
 use model::numbers::ROLES;
 use model::numbers::ROW_LENGTH;
 use tables::addresses::role_addr;
 use tables::places::occupied;
 use tables::records::put_file;
 use tables::records::put_process;
-use tables::words::set_word;
+use tables::words::put_words;
 ghost use mathlib.Core.Path.{_≡_};
 ghost use mathlib.Core.List.{[], _∷_};
 ghost use Prim.Native.Nat.{_+_};
 ghost use lib.Dec.{eqb};
 ghost use lib.ListN.{length, replicate};
+ghost use Rattle.model.specs.Numbers.{ROLE-SETS, INHERIT-PARENT};
 ghost use Rattle.model.specs.Words.{put};
 ghost use Rattle.model.specs.Records.{flag, roleAddr};
 ghost use Rattle.model.specs.WellFormed.{wellFormed};
@@ -59,16 +61,19 @@ fn clear(t: &mut [u32])
     }
 }
 
-// A role over zeros: the mark of role 0, and default types that inherit; the IPC type stays 0.
+// A role over zeros: past its sets the mark, which role 0 has, and default types that inherit; the IPC type stays 0.
 fn put_fresh_role(t: &mut [u32], role: u32)
-    ensures { λ _. ⌜ now (t .exit) ≡ put (now (t .entry)) (roleAddr role + 3) (flag (eqb role 0) ∷ 32 ∷ 32 ∷ 32 ∷ 32 ∷ []) ⌝ }
+    ensures { λ _. ⌜ now (t .exit) ≡ put (now (t .entry)) (roleAddr role + ROLE-SETS) (flag (eqb role 0) ∷ INHERIT-PARENT ∷ INHERIT-PARENT ∷ INHERIT-PARENT ∷ INHERIT-PARENT ∷ []) ⌝ }
 {
-    let a = role_addr(role) + 3;
-    set_word(t, a, (role == 0) as u32);
-    set_word(t, a + 1, INHERIT_PARENT);
-    set_word(t, a + 2, INHERIT_PARENT);
-    set_word(t, a + 3, INHERIT_PARENT);
-    set_word(t, a + 4, INHERIT_PARENT);
+    let mark = (role == 0) as u32;
+    let vs = [
+        mark,
+        INHERIT_PARENT,
+        INHERIT_PARENT,
+        INHERIT_PARENT,
+        INHERIT_PARENT,
+    ];
+    put_words(t, role_addr(role) + (ROLE_SETS as usize), &vs);
 }
 
 // Fresh tables over whatever a row of full length held; a row of any other length is refused with 1.

@@ -40,6 +40,7 @@ fn special_forced(v: u32) -> bool
     (INHERIT_USER <= v) & (v <= UP_MIXED)
 }
 
+// Live, owner, role, type, forced; inherit parent is no forced role of a process.
 pub fn process_ok(t: &[u32], p: u32) -> bool
     ensures { λ r. ⌜ r ≡ processOk (now (t .entry)) p ⌝ }
 {
@@ -59,6 +60,7 @@ pub fn process_ok(t: &[u32], p: u32) -> bool
         & ((forced < ROLES) | special_forced(forced))
 }
 
+// A default role is a plain role.
 pub fn user_ok(t: &[u32], u: u32) -> bool
     ensures { λ r. ⌜ r ≡ userOk (now (t .entry)) u ⌝ }
 {
@@ -78,6 +80,7 @@ pub fn role_ok(t: &[u32], role: u32) -> bool
         & (word(t, a + 8) < TYPES)
 }
 
+// Live, type.
 pub fn ipc_ok(t: &[u32], i: u32) -> bool
     ensures { λ r. ⌜ r ≡ ipcOk (now (t .entry)) i ⌝ }
 {
@@ -90,7 +93,7 @@ pub fn ipc_ok(t: &[u32], i: u32) -> bool
     (live == 1) & (rctype < TYPES)
 }
 
-// Place 0 is the root; any other file has a DIR as parent and a depth one above it, so that no walk up the tree is needed.
+// Place 0 is the root; any other file has a DIR as parent and lies one deeper, so that no walk up the tree is needed.
 fn link_ok(t: &[u32], o: u32, kind: u32, parent: u32, depth: u32) -> bool
     ensures { λ r. ⌜ r ≡ okLink o (kind ∷ parent ∷ depth ∷ []) (block (now (t .entry)) (fileAddr parent) 6) ⌝ }
 {
@@ -104,6 +107,7 @@ fn link_ok(t: &[u32], o: u32, kind: u32, parent: u32, depth: u32) -> bool
     (word(t, a) == DIR) & ((depth as usize) == (word(t, a + 2) as usize) + 1) & (depth <= DEEPEST)
 }
 
+// Kind, parent, depth, type, initial, forced.
 pub fn file_ok(t: &[u32], o: u32) -> bool
     ensures { λ r. ⌜ r ≡ fileOk (now (t .entry)) o ⌝ }
 {

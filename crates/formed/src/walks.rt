@@ -11,10 +11,11 @@ use model::numbers::ROLES;
 use model::numbers::USERS;
 ghost use mathlib.Core.Path.{_≡_};
 ghost use Rattle.sets.specs.Below.{allBelow};
+ghost use Rattle.model.specs.Numbers.{PROCESSES, USERS, ROLES, IPCS, FILES};
 ghost use Rattle.model.specs.WellFormed.{processOk, userOk, roleOk, ipcOk, fileOk};
 
 pub fn processes_ok(t: &[u32]) -> bool
-    ensures { λ r. ⌜ r ≡ allBelow 64 (processOk (now (t .entry))) ⌝ }
+    ensures { λ r. ⌜ r ≡ allBelow PROCESSES (processOk (now (t .entry))) ⌝ }
 {
     let mut ok = true;
     let mut k = 0;
@@ -26,7 +27,7 @@ pub fn processes_ok(t: &[u32]) -> bool
 }
 
 pub fn users_ok(t: &[u32]) -> bool
-    ensures { λ r. ⌜ r ≡ allBelow 32 (userOk (now (t .entry))) ⌝ }
+    ensures { λ r. ⌜ r ≡ allBelow USERS (userOk (now (t .entry))) ⌝ }
 {
     let mut ok = true;
     let mut k = 0;
@@ -38,7 +39,7 @@ pub fn users_ok(t: &[u32]) -> bool
 }
 
 pub fn roles_ok(t: &[u32]) -> bool
-    ensures { λ r. ⌜ r ≡ allBelow 32 (roleOk (now (t .entry))) ⌝ }
+    ensures { λ r. ⌜ r ≡ allBelow ROLES (roleOk (now (t .entry))) ⌝ }
 {
     let mut ok = true;
     let mut k = 0;
@@ -50,7 +51,7 @@ pub fn roles_ok(t: &[u32]) -> bool
 }
 
 pub fn ipcs_ok(t: &[u32]) -> bool
-    ensures { λ r. ⌜ r ≡ allBelow 64 (ipcOk (now (t .entry))) ⌝ }
+    ensures { λ r. ⌜ r ≡ allBelow IPCS (ipcOk (now (t .entry))) ⌝ }
 {
     let mut ok = true;
     let mut k = 0;
@@ -62,7 +63,7 @@ pub fn ipcs_ok(t: &[u32]) -> bool
 }
 
 pub fn files_ok(t: &[u32]) -> bool
-    ensures { λ r. ⌜ r ≡ allBelow 256 (fileOk (now (t .entry))) ⌝ }
+    ensures { λ r. ⌜ r ≡ allBelow FILES (fileOk (now (t .entry))) ⌝ }
 {
     let mut ok = true;
     let mut k = 0;

@@ -1,18 +1,21 @@
 -- Laws of the sets. To add 2 ^ i where bit i is 0 turns bit i on and leaves each other bit: below i nothing is carried,
 -- and above i the carry stops at bit i. To take 2 ^ i away where bit i is 1 is that read backwards.
--- A word is halved bit by bit, so two words with the same bits are equal.
+-- A word is halved bit by bit, so two words with the same bits are equal. The machine's `&` and `|` act on each bit by itself:
+-- so the words of two sets, taken together, say what their members say one by one.
 use Prim.Native.Nat.{ℕ, zero, suc, _+_, _-_, _*_, _/_, _%_, _^_, _≤_, _<_}
 use mathlib.Core.Path.{_≡_, refl, sym, ap, _∙_}
-use mathlib.Core.Bool.{true, false, not, _||_}
+use mathlib.Core.Bool.{Bool, true, false, cond, not, _&&_, _||_, or-false}
 use mathlib.Core.Logic.{⊎-elim, _≢_}
-use native.Mathlib.Nat.{add-mul-div-right, add-div-right, mul-comm, le-div-iff-mul-le}
+use native.Mathlib.Nat.{add-mul-div-right, add-div-right, mul-comm, le-div-iff-mul-le, eq-or-lt-of-le, le-of-suc-le-suc}
 use native.Mathlib.Numerals.{add-one, one-add}
 use native.Mathlib.Omega.{arith}
 use borrow.Author.Tests.{eq-eqb, ne-eqb, eqb-true, eqb-false, lt-ltb, le-ltb, ltb-true, le-leb, lt-leb}
 use lib.Dec.{ltb, eqb}
+use lib.Bits.{bitAnd, bitOr, and-shr, or-shr, and-mod, or-mod, and-lt, or-lt}
 use lib.Pow.{shr-lt, shl-exact, pow-pos, pow-add, shr-shr, shr-le}
-use Rattle.sets.specs.Sets.{has, added, removed, sizeOf, inside}
-use Rattle.sets.proofs.Below.{by-bool, lt-or-le, left, right, all-at, all-of, count-bound, count-more}
+use Rattle.sets.specs.Sets.{has, added, removed, sizeOf, inside, meets, collect, joined, union}
+use Rattle.sets.specs.Below.{someBelow}
+use Rattle.sets.proofs.Below.{by-bool, same-truth, lt-or-le, left, right, both, all-at, all-of, some-at, some-of, not-some, some-next, count-bound, count-more}
 
 -- ---- words: what adding 2 ^ i does to bit j
 
@@ -66,6 +69,9 @@ pub empty-has : (i : ℕ) → has 0 i ≡ false
 empty-has i =
     by-bool (λ b. b ≡ false) (has 0 i)
     (λ e. let h : 0 / 2 ^ i % 2 ≡ 1 = has-bit 0 i e in absurd (omega (arith, shr-le 0 i))) (λ e. refl)
+
+no-member : (i : ℕ) → has 0 i ≡ true → ⊥
+no-member i e = let z : false ≡ true = sym (empty-has i) ∙ e in let q : _≡_ {A = ℕ} 0 1 = cc in omega arith
 
 pub same-members : (s u : ℕ) → s < 2 ^ 32 → u < 2 ^ 32 → ((i : ℕ) → i < 32 → has s i ≡ has u i) → s ≡ u
 same-members s u hs hu h =
@@ -197,3 +203,174 @@ inside-refl s = inside-of s s (λ i l e. e)
 
 pub inside-trans : (s u v : ℕ) → inside s u ≡ true → inside u v ≡ true → inside s v ≡ true
 inside-trans s u v a b = inside-of s v (λ i l e. inside-at u v b i (inside-at s u a i e))
+
+-- ---- the words of two sets taken together
+
+-- an operation on each bit by itself is one on members
+module _ (op : ℕ → ℕ → ℕ) (f : Bool → Bool → Bool)
+    (shr : (a b k : ℕ) → op a b / 2 ^ k ≡ op (a / 2 ^ k) (b / 2 ^ k))
+    (low : (a b k : ℕ) → op a b % 2 ^ k ≡ op (a % 2 ^ k) (b % 2 ^ k))
+    (digit : (x y : ℕ) → x < 2 → y < 2 → eqb (op x y) 1 ≡ f (eqb x 1) (eqb y 1)) where
+  has-op : (s u i : ℕ) → i < 32 → has (op s u) i ≡ f (has s i) (has u i)
+  has-op s u i l =
+      rw (has-in (op s u) i l, has-in s i l, has-in u i l, shr s u i, low (s / 2 ^ i) (u / 2 ^ i) 1)
+      (digit (s / 2 ^ i % 2) (u / 2 ^ i % 2) (omega arith) (omega arith))
+
+pub has-and : (s u i : ℕ) → has (bitAnd s u) i ≡ (has s i && has u i)
+has-and s u i =
+    ⊎-elim (has-op bitAnd _&&_ and-shr and-mod digit s u i) (λ l. rw (has-past (bitAnd s u) i l, has-past s i l)) (lt-or-le i 32)
+  where
+    digit : (x y : ℕ) → x < 2 → y < 2 → eqb (bitAnd x y) 1 ≡ (eqb x 1 && eqb y 1)
+    digit zero y h k = refl
+    digit (suc zero) zero h k = refl
+    digit (suc zero) (suc zero) h k = refl
+    digit (suc zero) (suc (suc y)) h k = absurd (omega arith)
+    digit (suc (suc x)) y h k = absurd (omega arith)
+
+pub has-or : (s u i : ℕ) → has (bitOr s u) i ≡ (has s i || has u i)
+has-or s u i =
+    ⊎-elim (has-op bitOr _||_ or-shr or-mod digit s u i) (λ l. rw (has-past (bitOr s u) i l, has-past s i l, has-past u i l)) (lt-or-le i 32)
+  where
+    digit : (x y : ℕ) → x < 2 → y < 2 → eqb (bitOr x y) 1 ≡ (eqb x 1 || eqb y 1)
+    digit zero y h k = refl
+    digit (suc zero) zero h k = refl
+    digit (suc zero) (suc zero) h k = refl
+    digit (suc zero) (suc (suc y)) h k = absurd (omega arith)
+    digit (suc (suc x)) y h k = absurd (omega arith)
+
+-- ---- two sets that meet
+
+pub meets-of : (s u i : ℕ) → has s i ≡ true → has u i ≡ true → meets s u ≡ true
+unfolding meets
+meets-of s u i a b = some-of (λ i. has s i && has u i) 32 i (has-bound s i a) (both (has s i) (has u i) a b)
+
+pub meets-at : (s u : ℕ) → meets s u ≡ true → (i : ℕ) × (has s i ≡ true) × (has u i ≡ true)
+unfolding meets
+meets-at s u e =
+    let k = some-at (λ i. has s i && has u i) 32 e in
+    (k .0, left (has s (k .0)) (has u (k .0)) (k .2), right (has s (k .0)) (has u (k .0)) (k .2))
+
+apart-word : (s u : ℕ) → s < 2 ^ 32 → u < 2 ^ 32 → meets s u ≡ false → bitAnd s u ≡ 0
+unfolding meets
+apart-word s u hs hu e =
+    same-members (bitAnd s u) 0 (and-lt 32 s u hs hu) (omega arith)
+    (λ i l. has-and s u i ∙ not-some (λ i. has s i && has u i) 32 e i l ∙ sym (empty-has i))
+
+-- the machine's test
+pub meets-word : (s u : ℕ) → s < 2 ^ 32 → u < 2 ^ 32 → not (eqb (bitAnd s u) 0) ≡ meets s u
+meets-word s u hs hu =
+    by-bool (λ b. not (eqb (bitAnd s u) 0) ≡ b) (meets s u)
+    (λ e.
+    let m = meets-at s u e in
+    let h : has (bitAnd s u) (m .0) ≡ true = has-and s u (m .0) ∙ both (has s (m .0)) (has u (m .0)) (m .1) (m .2) in
+    rw (ne-eqb (bitAnd s u) 0 (λ z. absurd (no-member (m .0) (rw z at h)))))
+    (λ e. rw (eq-eqb (bitAnd s u) 0 (apart-word s u hs hu e)))
+
+-- ---- one set inside another, by words
+
+pub inside-word : (s u : ℕ) → s < 2 ^ 32 → u < 2 ^ 32 → eqb (bitAnd s u) s ≡ inside s u
+inside-word s u hs hu =
+    same-truth (eqb (bitAnd s u) s) (inside s u)
+    (λ e. inside-of s u (λ i l h. right (has s i) (has u i) (sym (has-and s u i) ∙ rw (eqb-true (bitAnd s u) s e) h)))
+    (λ e. eq-eqb (bitAnd s u) s
+    (same-members (bitAnd s u) s (and-lt 32 s u hs hu) hs (λ i l. has-and s u i ∙ within i (inside-at s u e i))))
+  where
+    within : (i : ℕ) → (has s i ≡ true → has u i ≡ true) → (has s i && has u i) ≡ has s i
+    within i h = by-bool (λ b. (b && has u i) ≡ b) (has s i) h (λ e. refl)
+
+-- ---- the numbers that have p
+
+module _ (p : ℕ → Bool) where
+  pub collect-fits : (n : ℕ) → collect n p < 2 ^ 32
+  unfolding collect
+  collect-fits zero = omega arith
+  collect-fits (suc n) =
+      by-bool (λ b. cond b (added (collect n p) n) (collect n p) < 2 ^ 32) (p n) (λ e. added-fits (collect n p) n (collect-fits n)) (λ e. collect-fits n)
+
+  -- a number from n on is not in it
+  pub has-collect-past : (n k : ℕ) → n ≤ k → has (collect n p) k ≡ false
+  unfolding collect
+  has-collect-past zero k l = empty-has k
+  has-collect-past (suc n) k l =
+      by-bool (λ b. has (cond b (added (collect n p) n) (collect n p)) k ≡ false) (p n)
+      (λ e. added-other (collect n p) n k (omega arith) ∙ has-collect-past n k (omega arith)) (λ e. has-collect-past n k (omega arith))
+
+  collect-here : (n : ℕ) → n < 32 → has (collect (suc n) p) n ≡ p n
+  unfolding collect
+  collect-here n l =
+      by-bool (λ b. has (cond b (added (collect n p) n) (collect n p)) n ≡ b) (p n)
+      (λ e. added-same (collect n p) n l) (λ e. has-collect-past n n (omega arith))
+
+  collect-there : (n k : ℕ) → k < n → has (collect (suc n) p) k ≡ has (collect n p) k
+  unfolding collect
+  collect-there n k l =
+      by-bool (λ b. has (cond b (added (collect n p) n) (collect n p)) k ≡ has (collect n p) k) (p n)
+      (λ e. added-other (collect n p) n k (omega arith)) (λ e. refl)
+
+  pub has-collect : (n k : ℕ) → k < n → n ≤ 32 → has (collect n p) k ≡ p k
+  has-collect zero k l m = absurd (omega arith)
+  has-collect (suc n) k l m =
+      ⊎-elim (λ e. rw e (collect-here n (omega arith))) (λ h. collect-there n k h ∙ has-collect n k h (omega arith))
+      (eq-or-lt-of-le (le-of-suc-le-suc l))
+
+  -- as a loop extends it
+  pub collect-next : (n : ℕ) → n < 32 → collect (n + 1) p ≡ collect n p + cond (p n) (2 ^ n) 0
+  unfolding collect
+  collect-next n l =
+      rw add-one
+      (by-bool (λ b. cond b (added (collect n p) n) (collect n p) ≡ collect n p + cond b (2 ^ n) 0) (p n)
+      (λ e. added-new (collect n p) n l (has-collect-past n n (omega arith))) (λ e. omega arith))
+
+-- a word with the members of a test is the set that it collects
+pub is-collect : (s : ℕ) (p : ℕ → Bool) → s < 2 ^ 32 → ((i : ℕ) → i < 32 → has s i ≡ p i) → s ≡ collect 32 p
+is-collect s p h same =
+    same-members s (collect 32 p) h (collect-fits p 32) (λ i l. same i l ∙ sym (has-collect p 32 i l (omega arith)))
+
+pub collect-same : (p q : ℕ → Bool) → ((i : ℕ) → i < 32 → p i ≡ q i) → collect 32 p ≡ collect 32 q
+collect-same p q h = is-collect (collect 32 p) q (collect-fits p 32) (λ i l. has-collect p 32 i l (omega arith) ∙ h i l)
+
+-- ---- the members of either
+
+pub has-joined : (s u i : ℕ) → has (joined s u) i ≡ (has s i || has u i)
+unfolding joined
+has-joined s u i =
+    ⊎-elim (λ l. has-collect (λ i. has s i || has u i) 32 i l (omega arith))
+    (λ l. rw (has-past (collect 32 (λ i. has s i || has u i)) i l, has-past s i l, has-past u i l)) (lt-or-le i 32)
+
+pub joined-fits : (s u : ℕ) → joined s u < 2 ^ 32
+unfolding joined
+joined-fits s u = collect-fits (λ i. has s i || has u i) 32
+
+-- the machine's union
+pub joined-word : (s u : ℕ) → s < 2 ^ 32 → u < 2 ^ 32 → bitOr s u ≡ joined s u
+unfolding joined
+joined-word s u hs hu = is-collect (bitOr s u) (λ i. has s i || has u i) (or-lt 32 s u hs hu) (λ i l. has-or s u i)
+
+-- ---- the members of any
+
+module _ (s : ℕ) (f : ℕ → ℕ) where
+  pub has-union : (n v : ℕ) → v < 32 → has (union n s f) v ≡ someBelow n (λ i. has s i && has (f i) v)
+  unfolding union
+  has-union n v l = has-collect (λ v. someBelow n (λ i. has s i && has (f i) v)) 32 v l (omega arith)
+
+  pub union-fits : (n : ℕ) → union n s f < 2 ^ 32
+  unfolding union
+  union-fits n = collect-fits (λ v. someBelow n (λ i. has s i && has (f i) v)) 32
+
+  pub union-none : union 0 s f ≡ 0
+  unfolding someBelow
+  union-none = same-members (union 0 s f) 0 (union-fits 0) (omega arith) (λ v l. has-union 0 v l ∙ sym (empty-has v))
+
+  -- as a loop extends it
+  pub union-next : (n : ℕ) → union (n + 1) s f ≡ cond (has s n) (joined (union n s f) (f n)) (union n s f)
+  union-next n =
+      same-members (union (n + 1) s f) (cond (has s n) (joined (union n s f) (f n)) (union n s f)) (union-fits (n + 1)) fits
+      (λ v l. has-union (n + 1) v l ∙ some-next (λ i. has s i && has (f i) v) n ∙ rw (← has-union n v l) (here v))
+    where
+      fits : cond (has s n) (joined (union n s f) (f n)) (union n s f) < 2 ^ 32
+      fits = by-bool (λ b. cond b (joined (union n s f) (f n)) (union n s f) < 2 ^ 32) (has s n) (λ e. joined-fits (union n s f) (f n)) (λ e. union-fits n)
+
+      here : (v : ℕ) → (has (union n s f) v || (has s n && has (f n) v)) ≡ has (cond (has s n) (joined (union n s f) (f n)) (union n s f)) v
+      here v =
+          by-bool (λ b. (has (union n s f) v || (b && has (f n) v)) ≡ has (cond b (joined (union n s f) (f n)) (union n s f)) v) (has s n)
+          (λ e. sym (has-joined (union n s f) (f n) v)) (λ e. or-false (has (union n s f) v))

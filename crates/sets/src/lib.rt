@@ -1,6 +1,7 @@
 // Sets of numbers below 32, each held in one word: whether a number is in one, with it, without it, how many.
+// Two sets are compared and joined word by word, and not number by number.
 ghost use mathlib.Core.Path.{_≡_};
-ghost use Rattle.sets.specs.Sets.{has as hasOf, added, removed, sizeOf};
+ghost use Rattle.sets.specs.Sets.{has as hasOf, added, removed, sizeOf, meets as meetsOf, inside as insideOf, joined};
 
 // A set: number i is in it where bit i is 1.
 pub struct RoleSet {
@@ -56,5 +57,28 @@ impl RoleSet {
             i += 1;
         }
         n
+    }
+
+    // Whether some number is in both sets.
+    pub fn meets(self, other: RoleSet) -> bool
+        ensures { λ r. ⌜ r ≡ meetsOf (self .bits) (other .bits) ⌝ }
+    {
+        self.bits & other.bits != 0
+    }
+
+    // Whether every member is in the other set.
+    pub fn inside(self, other: RoleSet) -> bool
+        ensures { λ r. ⌜ r ≡ insideOf (self .bits) (other .bits) ⌝ }
+    {
+        self.bits & other.bits == self.bits
+    }
+
+    // The set of every number that is in either.
+    pub fn join(self, other: RoleSet) -> RoleSet
+        ensures { λ r. ⌜ r .bits ≡ joined (self .bits) (other .bits) ⌝ }
+    {
+        RoleSet {
+            bits: self.bits | other.bits,
+        }
     }
 }

@@ -1,13 +1,25 @@
--- The three tables of objects are searched alike: records of one length, one after the other, whose first word is 0 where the place is free.
-use Prim.Native.Nat.{ℕ, _+_, _*_}
+-- Nothing is put past the end. The three tables of objects are searched alike: records of one length, one after the other,
+-- whose first word is 0 where the place is free.
+use Prim.Native.Nat.{ℕ, suc, _+_, _*_, _≤_}
 use mathlib.Core.Path.{_≡_, refl}
 use mathlib.Core.Bool.{Bool, true, false, not}
-use mathlib.Core.List.{List}
+use mathlib.Core.List.{List, [], _∷_}
+use native.Mathlib.Omega.{arith}
 use lib.Dec.{eqb}
+use lib.ListN.{length}
+use lib.Seq.{set-out}
 use Rattle.sets.specs.Below.{firstBelow}
 use Rattle.sets.proofs.Below.{first-same}
-use Rattle.model.specs.Words.{_!_}
+use Rattle.model.specs.Words.{_!_, putFrom, put}
 use Rattle.model.specs.Records.{places, placeAddr, occupied, freePlace}
+
+from-out : (vs t : List ℕ) (a k : ℕ) → length t ≤ a → putFrom t a k vs ≡ t
+from-out [] t a k h = refl
+from-out (v ∷ vs) t a k h = rw (set-out t (a + k) v (omega arith)) (from-out vs t a (suc k) h)
+
+pub put-out : (t : List ℕ) (a : ℕ) (vs : List ℕ) → length t ≤ a → put t a vs ≡ t
+unfolding put
+put-out t a vs h = from-out vs t a 0 h
 
 not-not : (b : Bool) → b ≡ not (not b)
 not-not true = refl

@@ -13,30 +13,35 @@ use model::numbers::USERS_AT;
 ghost use mathlib.Core.Path.{_≡_};
 ghost use Rattle.model.specs.Records.{processAddr, userAddr, roleAddr, ipcAddr, fileAddr, rightsAddr};
 
+// Live, owner, role, type, forced.
 pub fn process_addr(p: u32) -> usize
     ensures { λ r. ⌜ r ≡ processAddr p ⌝ }
 {
     (p as usize) * PROCESS_WORDS
 }
 
+// The default role.
 pub fn user_addr(u: u32) -> usize
     ensures { λ r. ⌜ r ≡ userAddr u ⌝ }
 {
     USERS_AT + (u as usize)
 }
 
+// Compatible, admin and assign roles, the Role Admin mark, five default types.
 pub fn role_addr(role: u32) -> usize
     ensures { λ r. ⌜ r ≡ roleAddr role ⌝ }
 {
     ROLES_AT + (role as usize) * ROLE_WORDS
 }
 
+// Live, type.
 pub fn ipc_addr(i: u32) -> usize
     ensures { λ r. ⌜ r ≡ ipcAddr i ⌝ }
 {
     IPCS_AT + (i as usize) * IPC_WORDS
 }
 
+// Kind, parent, depth, type, initial, forced.
 pub fn file_addr(o: u32) -> usize
     ensures { λ r. ⌜ r ≡ fileAddr o ⌝ }
 {

@@ -14,6 +14,7 @@ use model::numbers::USE_FORCED_ROLE;
 ghost use mathlib.Core.Path.{_≡_};
 ghost use Rattle.model.specs.Records.{kindOf, kindWord, initialOf, initialWord, forcedOf, forcedWord};
 
+// What stands at a file place whose kind is w.
 pub fn kind_of(w: u32) -> Kind
     ensures { λ r. ⌜ r ≡ kindOf w ⌝ }
 {
@@ -26,6 +27,7 @@ pub fn kind_of(w: u32) -> Kind
     }
 }
 
+// The number of a kind.
 pub fn kind_word(kind: Kind) -> u32
     ensures { λ r. ⌜ r ≡ kindWord kind ⌝ }
 {
@@ -36,6 +38,7 @@ pub fn kind_word(kind: Kind) -> u32
     }
 }
 
+// The initial role that w stands for: below 32 a role.
 pub fn initial_of(w: u32) -> Initial
     ensures { λ r. ⌜ r ≡ initialOf w ⌝ }
 {
@@ -48,6 +51,7 @@ pub fn initial_of(w: u32) -> Initial
     }
 }
 
+// The number of an initial role.
 pub fn initial_word(initial: Initial) -> u32
     ensures { λ r. ⌜ r ≡ initialWord initial ⌝ }
 {
@@ -58,6 +62,7 @@ pub fn initial_word(initial: Initial) -> u32
     }
 }
 
+// The forced role that w stands for: below 32 a role.
 pub fn forced_of(w: u32) -> Forced
     ensures { λ r. ⌜ r ≡ forcedOf w ⌝ }
 {
@@ -74,6 +79,7 @@ pub fn forced_of(w: u32) -> Forced
     }
 }
 
+// The number of a forced role.
 pub fn forced_word(forced: Forced) -> u32
     ensures { λ r. ⌜ r ≡ forcedWord forced ⌝ }
 {

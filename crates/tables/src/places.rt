@@ -33,6 +33,7 @@ pub fn places(group: u32) -> u32
     }
 }
 
+// Where the record of a place begins.
 pub fn place_addr(group: u32, p: u32) -> usize
     ensures { λ r. ⌜ r ≡ placeAddr group p ⌝ }
 {

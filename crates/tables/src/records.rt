@@ -11,7 +11,7 @@ use crate::cases::initial_of;
 use crate::cases::initial_word;
 use crate::cases::kind_of;
 use crate::cases::kind_word;
-use crate::words::set_word;
+use crate::words::put_words;
 use crate::words::word;
 use model::File;
 use model::Ipc;
@@ -19,9 +19,11 @@ use model::Process;
 use model::Role;
 use sets::RoleSet;
 ghost use mathlib.Core.Path.{_≡_};
+ghost use Rattle.model.specs.Numbers.{TYPES};
 ghost use Rattle.model.specs.Words.{block};
 ghost use Rattle.model.specs.Records.{rightsAddr, processAt, putProcess, fileAt, putFile, fileWord, ipcAt, putIpc, roleAt, userRole, hasRight};
 
+// The process at place p.
 pub fn process_at(t: &[u32], p: u32) -> Process
     ensures { λ r. ⌜ r ≡ processAt (now (t .entry)) p ⌝ }
 {
@@ -35,18 +37,17 @@ pub fn process_at(t: &[u32], p: u32) -> Process
     }
 }
 
+// The row with process v at place p.
 pub fn put_process(t: &mut [u32], p: u32, v: Process)
     ensures { λ _. ⌜ now (t .exit) ≡ putProcess (now (t .entry)) p v ⌝ }
 {
-    let a = process_addr(p);
+    let live = v.live as u32;
     let forced = v.forced;
-    set_word(t, a, v.live as u32);
-    set_word(t, a + 1, v.owner);
-    set_word(t, a + 2, v.role);
-    set_word(t, a + 3, v.rctype);
-    set_word(t, a + 4, forced_word(forced));
+    let vs = [live, v.owner, v.role, v.rctype, forced_word(forced)];
+    put_words(t, process_addr(p), &vs);
 }
 
+// The file at place o.
 pub fn file_at(t: &[u32], o: u32) -> File
     ensures { λ r. ⌜ r ≡ fileAt (now (t .entry)) o ⌝ }
 {
@@ -61,19 +62,22 @@ pub fn file_at(t: &[u32], o: u32) -> File
     }
 }
 
+// The row with file v at place o.
 pub fn put_file(t: &mut [u32], o: u32, v: File)
     ensures { λ _. ⌜ now (t .exit) ≡ putFile (now (t .entry)) o v ⌝ }
 {
-    let a = file_addr(o);
     let kind = v.kind;
     let initial = v.initial;
     let forced = v.forced;
-    set_word(t, a, kind_word(kind));
-    set_word(t, a + 1, v.parent);
-    set_word(t, a + 2, v.depth);
-    set_word(t, a + 3, v.rctype);
-    set_word(t, a + 4, initial_word(initial));
-    set_word(t, a + 5, forced_word(forced));
+    let vs = [
+        kind_word(kind),
+        v.parent,
+        v.depth,
+        v.rctype,
+        initial_word(initial),
+        forced_word(forced),
+    ];
+    put_words(t, file_addr(o), &vs);
 }
 
 // One word of a file: 0 kind, 1 parent, 2 depth, 3 type, 4 initial, 5 forced.
@@ -83,6 +87,7 @@ pub fn file_word(t: &[u32], o: u32, slot: u32) -> u32
     word(t, file_addr(o) + (slot as usize))
 }
 
+// The IPC object at place i.
 pub fn ipc_at(t: &[u32], i: u32) -> Ipc
     ensures { λ r. ⌜ r ≡ ipcAt (now (t .entry)) i ⌝ }
 {
@@ -93,14 +98,16 @@ pub fn ipc_at(t: &[u32], i: u32) -> Ipc
     }
 }
 
+// The row with IPC object v at place i.
 pub fn put_ipc(t: &mut [u32], i: u32, v: Ipc)
     ensures { λ _. ⌜ now (t .exit) ≡ putIpc (now (t .entry)) i v ⌝ }
 {
-    let a = ipc_addr(i);
-    set_word(t, a, v.live as u32);
-    set_word(t, a + 1, v.rctype);
+    let live = v.live as u32;
+    let vs = [live, v.rctype];
+    put_words(t, ipc_addr(i), &vs);
 }
 
+// A role's sets, mark and default types; past the last role any number reads what stands there.
 pub fn role_at(t: &[u32], role: u32) -> Role
     ensures { λ r. ⌜ r ≡ roleAt (now (t .entry)) role ⌝ }
 {
@@ -141,12 +148,12 @@ pub fn has_right(t: &[u32], group: u32, role: u32, rctype: u32, right: u32) -> b
 
 // A role's row of sets of rights, one for each type of a group.
 pub fn rights_row(t: &[u32], group: u32, role: u32) -> [u32; 32]
-    ensures { λ r. ⌜ r ≡ block (now (t .entry)) (rightsAddr group role 0) 32 ⌝ }
+    ensures { λ r. ⌜ r ≡ block (now (t .entry)) (rightsAddr group role 0) TYPES ⌝ }
 {
     let a = rights_addr(group, role, 0);
     let mut row = [0u32; 32];
     let mut k = 0;
-    while k < 32 {
+    while k < row.len() {
         row[k] = word(t, a + k);
         k += 1;
     }

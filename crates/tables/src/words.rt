@@ -1,7 +1,7 @@
 // A word of the row. A read past the end is 0 and a write past the end is nothing, so that no caller has to show a bound.
 ghost use mathlib.Core.Path.{_≡_};
 ghost use lib.ListN.{set};
-ghost use Rattle.model.specs.Words.{_!_};
+ghost use Rattle.model.specs.Words.{_!_, put};
 
 // The word at a.
 pub fn word(t: &[u32], a: usize) -> u32
@@ -16,5 +16,19 @@ pub fn set_word(t: &mut [u32], a: usize, v: u32)
 {
     if a < t.len() {
         t[a] = v;
+    }
+}
+
+// The row with the words vs at a, a + 1, ..; past the end there is nothing to do.
+pub fn put_words(t: &mut [u32], a: usize, vs: &[u32])
+    ensures { λ _. ⌜ now (t .exit) ≡ put (now (t .entry)) a (now (vs .entry)) ⌝ }
+{
+    if t.len() < a {
+        return;
+    }
+    let mut k = 0;
+    while k < vs.len() {
+        set_word(t, a + k, vs[k]);
+        k += 1;
     }
 }

@@ -3,16 +3,16 @@ use Prim.Native.Nat.{_≤_, _-_}
 use mathlib.Core.Path.{_≡_, refl, _∙_}
 use native.Mathlib.Omega.{arith}
 use borrow.Author.Needs.{needs}
-use lib.ListN.{length}
 use borrow.Author.Tests.{eq-eqb, ne-eqb}
+use lib.ListN.{length}
 use Rattle.model.specs.Outcome.{decide}
 use Rattle.model.specs.Fresh.{build}
-use Rattle.formed.proofs.Built.{putRoles, roles-next, built}
+use Rattle.formed.proofs.Built.{putFreshRoles, roles-next, built}
 use Rattle.formed.proofs.fresh.Statement.{statement}
 use Rattle.formed.proofs.fresh.Tie as tie
 
 abbrev Inv-loop : tie.InvT-loop
-Inv-loop t₀ r₀ t r = (t ≡ putRoles r t₀) × (length t ≡ length t₀) × (r ≤ 32)
+Inv-loop t₀ r₀ t r = (t ≡ putFreshRoles r t₀) × (length t ≡ length t₀) × (r ≤ 32)
 
 abbrev μ-loop : tie.MeasureT-loop
 μ-loop t₀ r₀ t r = 32 - r
@@ -25,7 +25,7 @@ clear-requires : tie.Need-clear-requires Inv-loop μ-loop
 clear-requires c κs = search needs
 
 loop-holds : tie.Need-loop-holds Inv-loop μ-loop
-unfolding putRoles
+unfolding putFreshRoles
 loop-holds c = (refl, refl, search needs)
 
 put-fresh-role-requires : tie.Need-put-fresh-role-requires Inv-loop μ-loop
@@ -61,9 +61,10 @@ returns-2 : tie.Need-returns-2 Inv-loop μ-loop
 unfolding build decide
 returns-2 c =
     let l = c .before .before .before .before .before .before .before .before .before .before .before in
+    let n = l .before .before .before .before .before .if1 .left in
     let e : l .loop .r ≡ 32 = omega arith in
-    let d = rw (e, l .before .before .before .clear .ensures, l .before .before .before .before .before .if1 .left) at (l .loop .inv .0) in
-    rw (eq-eqb _ 5376 (l .before .before .before .before .before .if1 .left), ← built) (cc)
+    let roles = rw (e, l .before .before .before .clear .ensures, n) at (l .loop .inv .0) in
+    rw (eq-eqb _ 5376 n, ← built) (cc)
 
 pub fresh-spec : {M : Type 1} → statement M
 fresh-spec =

@@ -1,68 +1,43 @@
--- The stores, one after the other, are the definition's.
-use native.Mathlib.Nat.{add-zero}
-use Rattle.model.specs.Words.{put}
+-- The code's address and words are the definition's.
 use borrow.Author.Needs.{needs}
 use Rattle.formed.proofs.put_fresh_role.Statement.{statement}
 use Rattle.formed.proofs.put_fresh_role.Tie as tie
 
+cast-mark : tie.Need-cast-mark
+cast-mark c = search needs
+
 role-addr-requires : tie.Need-role-addr-requires
 role-addr-requires c κs = search needs
 
-add-a : tie.Need-add-a
-add-a c = search needs
+cast-put-words : tie.Need-cast-put-words
+cast-put-words c = search needs
 
-cast-set-word : tie.Need-cast-set-word
-cast-set-word c = search needs
+add-put-words : tie.Need-add-put-words
+add-put-words c = search needs
 
-set-word-requires : tie.Need-set-word-requires
-set-word-requires c κs = search needs
+slice-aggregate-put-words : tie.Need-slice-aggregate-put-words
+slice-aggregate-put-words c = search needs
 
-add-set-word : tie.Need-add-set-word
-add-set-word c = search needs
-
-set-word-requires-2 : tie.Need-set-word-requires-2
-set-word-requires-2 c κs = search needs
-
-add-set-word-2 : tie.Need-add-set-word-2
-add-set-word-2 c = search needs
-
-set-word-requires-3 : tie.Need-set-word-requires-3
-set-word-requires-3 c κs = search needs
-
-add-set-word-3 : tie.Need-add-set-word-3
-add-set-word-3 c = search needs
-
-set-word-requires-4 : tie.Need-set-word-requires-4
-set-word-requires-4 c κs = search needs
-
-add-set-word-4 : tie.Need-add-set-word-4
-add-set-word-4 c = search needs
-
-set-word-requires-5 : tie.Need-set-word-requires-5
-set-word-requires-5 c κs = search needs
+put-words-requires : tie.Need-put-words-requires
+put-words-requires c κs = search needs
 
 same-length : tie.Need-same-length
 same-length c = search needs
 
 returns : tie.Need-returns
-unfolding put
-returns c = rw add-zero (cc)
+returns c =
+    let p = c .before .before in
+    rw (← p .before .before .role-addr .ensures) (p .put-words .ensures)
 
 pub put-fresh-role-spec : {M : Type 1} → statement M
 put-fresh-role-spec =
     tie.close
     (tie.spec
+    cast-mark
     role-addr-requires
-    add-a
-    cast-set-word
-    set-word-requires
-    add-set-word
-    set-word-requires-2
-    add-set-word-2
-    set-word-requires-3
-    add-set-word-3
-    set-word-requires-4
-    add-set-word-4
-    set-word-requires-5
+    cast-put-words
+    add-put-words
+    slice-aggregate-put-words
+    put-words-requires
     same-length
     returns)

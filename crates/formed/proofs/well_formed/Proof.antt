@@ -1,7 +1,7 @@
 -- A wrong length settles the first test of the definition; past it the other tests are those of the walks.
 use borrow.Author.Tests.{eq-eqb, ne-eqb}
-use Rattle.model.specs.WellFormed.{wellFormed}
 use borrow.Author.Needs.{needs}
+use Rattle.model.specs.WellFormed.{wellFormed}
 use Rattle.formed.proofs.well_formed.Statement.{statement}
 use Rattle.formed.proofs.well_formed.Tie as tie
 

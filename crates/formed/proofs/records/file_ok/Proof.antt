@@ -4,9 +4,9 @@ use mathlib.Core.Path.{_≡_}
 use mathlib.Core.List.{List, [], _∷_}
 use native.Mathlib.Nat.{add-zero}
 use borrow.Author.Tests.{eq-eqb, ne-eqb}
+use borrow.Author.Needs.{needs}
 use Rattle.model.specs.Words.{_!_, block}
 use Rattle.model.specs.WellFormed.{fileOk}
-use borrow.Author.Needs.{needs}
 use Rattle.formed.proofs.records.file_ok.Statement.{statement}
 use Rattle.formed.proofs.records.file_ok.Tie as tie
 
@@ -52,10 +52,26 @@ word-requires-6 : tie.Need-word-requires-6
 word-requires-6 c κs = search needs
 
 returns : tie.Need-returns
-unfolding fileOk block
+unfolding fileOk
 returns c =
-    let w = c .before .before .before .before .before .before in
-    rw (add-zero, ← w .before .file-addr .ensures, ← w .word .ensures, eq-eqb _ 0 (c .if1 .taken)) (cc)
+    let w6 = c .before in
+    let w5 = w6 .before in
+    let w4 = w5 .before in
+    let w3 = w4 .before in
+    let w2 = w3 .before in
+    let w1 = w2 .before in
+    let a = w1 .before in
+    rw (
+      ← a .file-addr .ensures,
+      six _ (a .file-addr .result),
+      ← w1 .word .ensures,
+      eq-eqb _ 0 (c .if1 .taken),
+      ← w2 .word2 .ensures,
+      ← w3 .word3 .ensures,
+      ← w4 .word4 .ensures,
+      ← w5 .word5 .ensures,
+      ← w6 .word6 .ensures,
+    )
 
 special-forced-requires : tie.Need-special-forced-requires
 special-forced-requires c κs = search needs
@@ -66,20 +82,25 @@ link-ok-requires c κs = search needs
 returns-2 : tie.Need-returns-2
 unfolding fileOk
 returns-2 c =
-    let v = c .before .before .before in
-    let w = v .before .before .before .before .before in
-    let a = w .before .file-addr in
+    let s = c .before in
+    let w6 = s .before .before in
+    let w5 = w6 .before in
+    let w4 = w5 .before in
+    let w3 = w4 .before in
+    let w2 = w3 .before in
+    let w1 = w2 .before in
+    let a = w1 .before in
     rw (
-      ← a .ensures,
-      six _ (a .result),
-      ← w .word .ensures,
+      ← a .file-addr .ensures,
+      six _ (a .file-addr .result),
+      ← w1 .word .ensures,
       ne-eqb _ 0 (c .before .before .if1 .left),
-      ← v .before .before .before .before .word2 .ensures,
-      ← v .before .before .before .word3 .ensures,
-      ← v .before .before .word4 .ensures,
-      ← v .before .word5 .ensures,
-      ← v .word6 .ensures,
-      ← c .before .special-forced .ensures,
+      ← w2 .word2 .ensures,
+      ← w3 .word3 .ensures,
+      ← w4 .word4 .ensures,
+      ← w5 .word5 .ensures,
+      ← w6 .word6 .ensures,
+      ← s .special-forced .ensures,
       ← c .link-ok .ensures,
     )
 

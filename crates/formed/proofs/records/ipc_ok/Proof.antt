@@ -1,9 +1,9 @@
 -- The first word tells which of the two tests applies, in the definition as in the code.
 use native.Mathlib.Nat.{add-zero}
 use borrow.Author.Tests.{eq-eqb, ne-eqb}
+use borrow.Author.Needs.{needs}
 use Rattle.model.specs.Words.{block}
 use Rattle.model.specs.WellFormed.{ipcOk}
-use borrow.Author.Needs.{needs}
 use Rattle.formed.proofs.records.ipc_ok.Statement.{statement}
 use Rattle.formed.proofs.records.ipc_ok.Tie as tie
 
@@ -22,14 +22,18 @@ word-requires-2 c κs = search needs
 returns : tie.Need-returns
 unfolding ipcOk block
 returns c =
-    let w = c .before .before in
-    rw (add-zero, ← w .before .ipc-addr .ensures, ← w .word .ensures, eq-eqb _ 0 (c .if1 .taken)) (cc)
+    let w2 = c .before in
+    let w1 = w2 .before in
+    let a = w1 .before in
+    rw (add-zero, ← a .ipc-addr .ensures, ← w1 .word .ensures, eq-eqb _ 0 (c .if1 .taken), ← w2 .word2 .ensures)
 
 returns-2 : tie.Need-returns-2
 unfolding ipcOk block
 returns-2 c =
-    let w = c .before .before in
-    rw (add-zero, ← w .before .ipc-addr .ensures, ← w .word .ensures, ne-eqb _ 0 (c .if1 .left)) (cc)
+    let w2 = c .before in
+    let w1 = w2 .before in
+    let a = w1 .before in
+    rw (add-zero, ← a .ipc-addr .ensures, ← w1 .word .ensures, ne-eqb _ 0 (c .if1 .left), ← w2 .word2 .ensures)
 
 pub ipc-ok-spec : {M : Type 1} → statement M
 ipc-ok-spec =

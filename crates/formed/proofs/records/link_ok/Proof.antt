@@ -1,8 +1,8 @@
 -- Each return rewrites by the tests that led to it; the words of the parent are those of its block.
 use native.Mathlib.Nat.{add-zero}
 use borrow.Author.Tests.{eq-eqb, ne-eqb, lt-ltb, le-ltb}
-use Rattle.model.specs.Words.{block}
 use borrow.Author.Needs.{needs}
+use Rattle.model.specs.Words.{block}
 use Rattle.formed.proofs.records.link_ok.Statement.{statement}
 use Rattle.formed.proofs.records.link_ok.Tie as tie
 
@@ -33,8 +33,16 @@ add-result c = search needs
 returns-3 : tie.Need-returns-3
 unfolding block
 returns-3 c =
-    let b = c .before .before .before in
-    rw (ne-eqb _ 0 (b .before .if1 .left), lt-ltb _ 256 (b .if2 .left), add-zero) (cc)
+    let w1 = c .before in
+    let a = w1 .before in
+    rw (
+      ne-eqb _ 0 (a .before .before .if1 .left),
+      lt-ltb _ 256 (a .before .if2 .left),
+      ← a .file-addr .ensures,
+      add-zero (a .file-addr .result),
+      ← w1 .word .ensures,
+      ← c .word2 .ensures,
+    )
 
 pub link-ok-spec : {M : Type 1} → statement M
 link-ok-spec =

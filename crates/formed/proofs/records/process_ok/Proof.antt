@@ -1,9 +1,9 @@
 -- The first word tells which of the two tests applies, in the definition as in the code.
 use native.Mathlib.Nat.{add-zero}
 use borrow.Author.Tests.{eq-eqb, ne-eqb}
+use borrow.Author.Needs.{needs}
 use Rattle.model.specs.Words.{block}
 use Rattle.model.specs.WellFormed.{processOk}
-use borrow.Author.Needs.{needs}
 use Rattle.formed.proofs.records.process_ok.Statement.{statement}
 use Rattle.formed.proofs.records.process_ok.Tie as tie
 
@@ -40,8 +40,22 @@ word-requires-5 c κs = search needs
 returns : tie.Need-returns
 unfolding processOk block
 returns c =
-    let w = c .before .before .before .before .before in
-    rw (add-zero, ← w .before .process-addr .ensures, ← w .word .ensures, eq-eqb _ 0 (c .if1 .taken)) (cc)
+    let w5 = c .before in
+    let w4 = w5 .before in
+    let w3 = w4 .before in
+    let w2 = w3 .before in
+    let w1 = w2 .before in
+    let a = w1 .before in
+    rw (
+      add-zero,
+      ← a .process-addr .ensures,
+      ← w1 .word .ensures,
+      eq-eqb _ 0 (c .if1 .taken),
+      ← w2 .word2 .ensures,
+      ← w3 .word3 .ensures,
+      ← w4 .word4 .ensures,
+      ← w5 .word5 .ensures,
+    )
 
 special-forced-requires : tie.Need-special-forced-requires
 special-forced-requires c κs = search needs
@@ -49,8 +63,23 @@ special-forced-requires c κs = search needs
 returns-2 : tie.Need-returns-2
 unfolding processOk block
 returns-2 c =
-    let w = c .before .before .before .before .before .before in
-    rw (add-zero, ← w .before .process-addr .ensures, ← w .word .ensures, ne-eqb _ 0 (c .before .if1 .left)) (cc)
+    let w5 = c .before .before in
+    let w4 = w5 .before in
+    let w3 = w4 .before in
+    let w2 = w3 .before in
+    let w1 = w2 .before in
+    let a = w1 .before in
+    rw (
+      add-zero,
+      ← a .process-addr .ensures,
+      ← w1 .word .ensures,
+      ne-eqb _ 0 (c .before .if1 .left),
+      ← w2 .word2 .ensures,
+      ← w3 .word3 .ensures,
+      ← w4 .word4 .ensures,
+      ← w5 .word5 .ensures,
+      ← c .special-forced .ensures,
+    )
 
 pub process-ok-spec : {M : Type 1} → statement M
 process-ok-spec =

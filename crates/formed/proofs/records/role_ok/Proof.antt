@@ -1,7 +1,7 @@
 -- The words that are tested are those of the record's block.
+use borrow.Author.Needs.{needs}
 use Rattle.model.specs.Words.{block}
 use Rattle.model.specs.WellFormed.{roleOk}
-use borrow.Author.Needs.{needs}
 use Rattle.formed.proofs.records.role_ok.Statement.{statement}
 use Rattle.formed.proofs.records.role_ok.Tie as tie
 
@@ -46,7 +46,22 @@ word-requires-6 c κs = search needs
 
 returns : tie.Need-returns
 unfolding roleOk block
-returns c = cc
+returns c =
+    let w5 = c .before in
+    let w4 = w5 .before in
+    let w3 = w4 .before in
+    let w2 = w3 .before in
+    let w1 = w2 .before in
+    let a = w1 .before in
+    rw (
+      ← a .role-addr .ensures,
+      ← w1 .word .ensures,
+      ← w2 .word2 .ensures,
+      ← w3 .word3 .ensures,
+      ← w4 .word4 .ensures,
+      ← w5 .word5 .ensures,
+      ← c .word6 .ensures,
+    )
 
 pub role-ok-spec : {M : Type 1} → statement M
 role-ok-spec =

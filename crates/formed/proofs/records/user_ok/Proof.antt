@@ -1,6 +1,6 @@
 -- The code's address is the definition's.
-use Rattle.model.specs.WellFormed.{userOk}
 use borrow.Author.Needs.{needs}
+use Rattle.model.specs.WellFormed.{userOk}
 use Rattle.formed.proofs.records.user_ok.Statement.{statement}
 use Rattle.formed.proofs.records.user_ok.Tie as tie
 

@@ -29,7 +29,7 @@ loop-less : tie.Need-loop-less Inv-loop μ-loop
 loop-less c = search needs
 
 loop-again : tie.Need-loop-again Inv-loop μ-loop
-loop-again c = (rw all-next (cc), search needs)
+loop-again c = (rw (all-next, ← c .before .before .loop .inv .0, ← c .process-ok .ensures), search needs)
 
 returns : tie.Need-returns Inv-loop μ-loop
 returns c =

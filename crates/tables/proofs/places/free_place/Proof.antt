@@ -2,8 +2,8 @@
 use mathlib.Core.Path.{_∙_}
 use native.Mathlib.Omega.{arith}
 use borrow.Author.Tests.{eq-eqb, ne-eqb}
-use Rattle.tables.proofs.Laws.{free-in}
 use borrow.Author.Needs.{needs}
+use Rattle.tables.proofs.Laws.{free-in}
 use Rattle.tables.proofs.places.free_place.Statement.{statement}
 use Rattle.tables.proofs.places.free_place.Tie as tie
 

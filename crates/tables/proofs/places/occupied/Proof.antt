@@ -1,6 +1,6 @@
 -- The code's address is the definition's.
-use Rattle.model.specs.Records.{occupied}
 use borrow.Author.Needs.{needs}
+use Rattle.model.specs.Records.{occupied}
 use Rattle.tables.proofs.places.occupied.Statement.{statement}
 use Rattle.tables.proofs.places.occupied.Tie as tie
 

@@ -1,8 +1,8 @@
 -- The words that are read are those of the record's block.
-use Rattle.model.specs.Words.{block}
-use Rattle.model.specs.Records.{fileAt}
 use native.Mathlib.Nat.{add-zero}
 use borrow.Author.Needs.{needs}
+use Rattle.model.specs.Words.{block}
+use Rattle.model.specs.Records.{fileAt}
 use Rattle.tables.proofs.records.file_at.Statement.{statement}
 use Rattle.tables.proofs.records.file_at.Tie as tie
 
@@ -53,7 +53,29 @@ forced-of-requires c κs = search needs
 
 returns : tie.Need-returns
 unfolding fileAt block
-returns c = rw add-zero (cc)
+returns c =
+    let w6 = c .before in
+    let i = w6 .before in
+    let w5 = i .before in
+    let w4 = w5 .before in
+    let w3 = w4 .before in
+    let w2 = w3 .before in
+    let k = w2 .before in
+    let w1 = k .before in
+    let a = w1 .before in
+    rw (
+      add-zero,
+      ← a .file-addr .ensures,
+      ← w1 .word .ensures,
+      ← k .kind-of .ensures,
+      ← w2 .word2 .ensures,
+      ← w3 .word3 .ensures,
+      ← w4 .word4 .ensures,
+      ← w5 .word5 .ensures,
+      ← i .initial-of .ensures,
+      ← w6 .word6 .ensures,
+      ← c .forced-of .ensures,
+    )
 
 pub file-at-spec : {M : Type 1} → statement M
 file-at-spec =

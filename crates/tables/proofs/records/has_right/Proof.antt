@@ -1,6 +1,6 @@
 -- The word that is read is the definition's, and `has` says the rest.
-use Rattle.model.specs.Records.{hasRight}
 use borrow.Author.Needs.{needs}
+use Rattle.model.specs.Records.{hasRight}
 use Rattle.tables.proofs.records.has_right.Statement.{statement}
 use Rattle.tables.proofs.records.has_right.Tie as tie
 
@@ -15,7 +15,10 @@ has-requires c κs = search needs
 
 returns : tie.Need-returns
 unfolding hasRight
-returns c = cc
+returns c =
+    let w1 = c .before in
+    let a = w1 .before in
+    rw (← a .rights-addr .ensures, ← w1 .word .ensures, ← c .has .ensures)
 
 pub has-right-spec : {M : Type 1} → statement M
 has-right-spec = tie.close (tie.spec rights-addr-requires word-requires has-requires returns)

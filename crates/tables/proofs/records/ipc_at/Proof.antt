@@ -1,8 +1,8 @@
 -- The words that are read are those of the record's block.
-use Rattle.model.specs.Words.{block}
-use Rattle.model.specs.Records.{ipcAt}
 use native.Mathlib.Nat.{add-zero}
 use borrow.Author.Needs.{needs}
+use Rattle.model.specs.Words.{block}
+use Rattle.model.specs.Records.{ipcAt}
 use Rattle.tables.proofs.records.ipc_at.Statement.{statement}
 use Rattle.tables.proofs.records.ipc_at.Tie as tie
 
@@ -20,7 +20,10 @@ word-requires-2 c κs = search needs
 
 returns : tie.Need-returns
 unfolding ipcAt block
-returns c = rw add-zero (cc)
+returns c =
+    let w1 = c .before in
+    let a = w1 .before in
+    rw (add-zero, ← a .ipc-addr .ensures, ← w1 .word .ensures, ← c .word2 .ensures)
 
 pub ipc-at-spec : {M : Type 1} → statement M
 ipc-at-spec = tie.close (tie.spec ipc-addr-requires word-requires add-word word-requires-2 returns)

@@ -1,8 +1,8 @@
 -- The words that are read are those of the record's block.
-use Rattle.model.specs.Words.{block}
-use Rattle.model.specs.Records.{processAt}
 use native.Mathlib.Nat.{add-zero}
 use borrow.Author.Needs.{needs}
+use Rattle.model.specs.Words.{block}
+use Rattle.model.specs.Records.{processAt}
 use Rattle.tables.proofs.records.process_at.Statement.{statement}
 use Rattle.tables.proofs.records.process_at.Tie as tie
 

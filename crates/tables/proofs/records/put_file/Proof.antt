@@ -1,81 +1,54 @@
--- The stores, one after the other, are the definition's.
-use Rattle.model.specs.Words.{put}
-use Rattle.model.specs.Records.{putFile}
-use native.Mathlib.Nat.{add-zero}
+-- The words that are put are the record's.
 use borrow.Author.Needs.{needs}
+use Rattle.model.specs.Records.{putFile}
 use Rattle.tables.proofs.records.put_file.Statement.{statement}
 use Rattle.tables.proofs.records.put_file.Tie as tie
-
-file-addr-requires : tie.Need-file-addr-requires
-file-addr-requires c κs = search needs
 
 kind-word-requires : tie.Need-kind-word-requires
 kind-word-requires c κs = search needs
 
-set-word-requires : tie.Need-set-word-requires
-set-word-requires c κs = search needs
-
-add-set-word : tie.Need-add-set-word
-add-set-word c = search needs
-
-set-word-requires-2 : tie.Need-set-word-requires-2
-set-word-requires-2 c κs = search needs
-
-add-set-word-2 : tie.Need-add-set-word-2
-add-set-word-2 c = search needs
-
-set-word-requires-3 : tie.Need-set-word-requires-3
-set-word-requires-3 c κs = search needs
-
-add-set-word-3 : tie.Need-add-set-word-3
-add-set-word-3 c = search needs
-
-set-word-requires-4 : tie.Need-set-word-requires-4
-set-word-requires-4 c κs = search needs
-
-add-set-word-4 : tie.Need-add-set-word-4
-add-set-word-4 c = search needs
-
 initial-word-requires : tie.Need-initial-word-requires
 initial-word-requires c κs = search needs
-
-set-word-requires-5 : tie.Need-set-word-requires-5
-set-word-requires-5 c κs = search needs
-
-add-set-word-5 : tie.Need-add-set-word-5
-add-set-word-5 c = search needs
 
 forced-word-requires : tie.Need-forced-word-requires
 forced-word-requires c κs = search needs
 
-set-word-requires-6 : tie.Need-set-word-requires-6
-set-word-requires-6 c κs = search needs
+file-addr-requires : tie.Need-file-addr-requires
+file-addr-requires c κs = search needs
+
+slice-aggregate-put-words : tie.Need-slice-aggregate-put-words
+slice-aggregate-put-words c = search needs
+
+put-words-requires : tie.Need-put-words-requires
+put-words-requires c κs = search needs
 
 same-length : tie.Need-same-length
 same-length c = search needs
 
 returns : tie.Need-returns
-unfolding putFile put
-returns c = rw add-zero (cc)
+unfolding putFile
+returns c =
+    let p = c .before .before in
+    let a = p .before .before in
+    let f = a .before .before in
+    let i = f .before in
+    let k = i .before in
+    rw (
+      ← a .file-addr .ensures,
+      ← k .kind-word .ensures,
+      ← i .initial-word .ensures,
+      ← f .forced-word .ensures,
+    ) (p .put-words .ensures)
 
 pub put-file-spec : {M : Type 1} → statement M
 put-file-spec =
     tie.close
     (tie.spec
-    file-addr-requires
     kind-word-requires
-    set-word-requires
-    add-set-word
-    set-word-requires-2
-    add-set-word-2
-    set-word-requires-3
-    add-set-word-3
-    set-word-requires-4
-    add-set-word-4
     initial-word-requires
-    set-word-requires-5
-    add-set-word-5
     forced-word-requires
-    set-word-requires-6
+    file-addr-requires
+    slice-aggregate-put-words
+    put-words-requires
     same-length
     returns)

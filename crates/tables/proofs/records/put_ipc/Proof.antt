@@ -1,41 +1,37 @@
--- The stores, one after the other, are the definition's.
-use Rattle.model.specs.Words.{put}
-use Rattle.model.specs.Records.{putIpc}
-use native.Mathlib.Nat.{add-zero}
+-- The words that are put are the record's.
 use borrow.Author.Needs.{needs}
+use Rattle.model.specs.Records.{putIpc}
 use Rattle.tables.proofs.records.put_ipc.Statement.{statement}
 use Rattle.tables.proofs.records.put_ipc.Tie as tie
+
+cast-live : tie.Need-cast-live
+cast-live c = search needs
 
 ipc-addr-requires : tie.Need-ipc-addr-requires
 ipc-addr-requires c κs = search needs
 
-cast-set-word : tie.Need-cast-set-word
-cast-set-word c = search needs
+slice-aggregate-put-words : tie.Need-slice-aggregate-put-words
+slice-aggregate-put-words c = search needs
 
-set-word-requires : tie.Need-set-word-requires
-set-word-requires c κs = search needs
-
-add-set-word : tie.Need-add-set-word
-add-set-word c = search needs
-
-set-word-requires-2 : tie.Need-set-word-requires-2
-set-word-requires-2 c κs = search needs
+put-words-requires : tie.Need-put-words-requires
+put-words-requires c κs = search needs
 
 same-length : tie.Need-same-length
 same-length c = search needs
 
 returns : tie.Need-returns
-unfolding putIpc put
-returns c = rw add-zero (cc)
+unfolding putIpc
+returns c =
+    let p = c .before .before in
+    rw (← p .before .before .ipc-addr .ensures) (p .put-words .ensures)
 
 pub put-ipc-spec : {M : Type 1} → statement M
 put-ipc-spec =
     tie.close
     (tie.spec
+    cast-live
     ipc-addr-requires
-    cast-set-word
-    set-word-requires
-    add-set-word
-    set-word-requires-2
+    slice-aggregate-put-words
+    put-words-requires
     same-length
     returns)

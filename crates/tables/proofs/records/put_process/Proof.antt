@@ -1,69 +1,43 @@
--- The stores, one after the other, are the definition's.
-use Rattle.model.specs.Words.{put}
-use Rattle.model.specs.Records.{putProcess}
-use native.Mathlib.Nat.{add-zero}
+-- The words that are put are the record's.
 use borrow.Author.Needs.{needs}
+use Rattle.model.specs.Records.{putProcess}
 use Rattle.tables.proofs.records.put_process.Statement.{statement}
 use Rattle.tables.proofs.records.put_process.Tie as tie
 
-process-addr-requires : tie.Need-process-addr-requires
-process-addr-requires c κs = search needs
-
-cast-set-word : tie.Need-cast-set-word
-cast-set-word c = search needs
-
-set-word-requires : tie.Need-set-word-requires
-set-word-requires c κs = search needs
-
-add-set-word : tie.Need-add-set-word
-add-set-word c = search needs
-
-set-word-requires-2 : tie.Need-set-word-requires-2
-set-word-requires-2 c κs = search needs
-
-add-set-word-2 : tie.Need-add-set-word-2
-add-set-word-2 c = search needs
-
-set-word-requires-3 : tie.Need-set-word-requires-3
-set-word-requires-3 c κs = search needs
-
-add-set-word-3 : tie.Need-add-set-word-3
-add-set-word-3 c = search needs
-
-set-word-requires-4 : tie.Need-set-word-requires-4
-set-word-requires-4 c κs = search needs
-
-add-set-word-4 : tie.Need-add-set-word-4
-add-set-word-4 c = search needs
+cast-live : tie.Need-cast-live
+cast-live c = search needs
 
 forced-word-requires : tie.Need-forced-word-requires
 forced-word-requires c κs = search needs
 
-set-word-requires-5 : tie.Need-set-word-requires-5
-set-word-requires-5 c κs = search needs
+process-addr-requires : tie.Need-process-addr-requires
+process-addr-requires c κs = search needs
+
+slice-aggregate-put-words : tie.Need-slice-aggregate-put-words
+slice-aggregate-put-words c = search needs
+
+put-words-requires : tie.Need-put-words-requires
+put-words-requires c κs = search needs
 
 same-length : tie.Need-same-length
 same-length c = search needs
 
 returns : tie.Need-returns
-unfolding putProcess put
-returns c = rw add-zero (cc)
+unfolding putProcess
+returns c =
+    let p = c .before .before in
+    let a = p .before .before in
+    let f = a .before .before in
+    rw (← a .process-addr .ensures, ← f .forced-word .ensures) (p .put-words .ensures)
 
 pub put-process-spec : {M : Type 1} → statement M
 put-process-spec =
     tie.close
     (tie.spec
-    process-addr-requires
-    cast-set-word
-    set-word-requires
-    add-set-word
-    set-word-requires-2
-    add-set-word-2
-    set-word-requires-3
-    add-set-word-3
-    set-word-requires-4
-    add-set-word-4
+    cast-live
     forced-word-requires
-    set-word-requires-5
+    process-addr-requires
+    slice-aggregate-put-words
+    put-words-requires
     same-length
     returns)

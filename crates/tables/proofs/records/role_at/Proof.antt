@@ -1,8 +1,8 @@
 -- The words that are read are those of the record's block.
-use Rattle.model.specs.Words.{block}
-use Rattle.model.specs.Records.{roleAt}
 use native.Mathlib.Nat.{add-zero}
 use borrow.Author.Needs.{needs}
+use Rattle.model.specs.Words.{block}
+use Rattle.model.specs.Records.{roleAt}
 use Rattle.tables.proofs.records.role_at.Statement.{statement}
 use Rattle.tables.proofs.records.role_at.Tie as tie
 
@@ -62,7 +62,29 @@ word-requires-9 c κs = search needs
 
 returns : tie.Need-returns
 unfolding roleAt block
-returns c = rw add-zero (cc)
+returns c =
+    let w8 = c .before in
+    let w7 = w8 .before in
+    let w6 = w7 .before in
+    let w5 = w6 .before in
+    let w4 = w5 .before in
+    let w3 = w4 .before in
+    let w2 = w3 .before in
+    let w1 = w2 .before in
+    let a = w1 .before in
+    rw (
+      add-zero,
+      ← a .role-addr .ensures,
+      ← w1 .word .ensures,
+      ← w2 .word2 .ensures,
+      ← w3 .word3 .ensures,
+      ← w4 .word4 .ensures,
+      ← w5 .word5 .ensures,
+      ← w6 .word6 .ensures,
+      ← w7 .word7 .ensures,
+      ← w8 .word8 .ensures,
+      ← c .word9 .ensures,
+    )
 
 pub role-at-spec : {M : Type 1} → statement M
 role-at-spec =

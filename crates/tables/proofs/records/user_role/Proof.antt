@@ -1,6 +1,6 @@
 -- The code's address is the definition's.
-use Rattle.model.specs.Records.{userRole}
 use borrow.Author.Needs.{needs}
+use Rattle.model.specs.Records.{userRole}
 use Rattle.tables.proofs.records.user_role.Statement.{statement}
 use Rattle.tables.proofs.records.user_role.Tie as tie
 

@@ -1,7 +1,7 @@
 -- Past the end a list with a word set is the list itself, as the code leaves the row there.
 use mathlib.Core.Path.{sym}
-use lib.Seq.{set-out}
 use borrow.Author.Needs.{needs}
+use lib.Seq.{set-out}
 use Rattle.tables.proofs.words.set_word.Statement.{statement}
 use Rattle.tables.proofs.words.set_word.Tie as tie
 

@@ -1,7 +1,7 @@
 -- Past the end the word of a list is 0, as the code answers there.
 use mathlib.Core.Path.{sym}
-use lib.ListN.{List·getD-eq-default}
 use borrow.Author.Needs.{needs}
+use lib.ListN.{List·getD-eq-default}
 use Rattle.tables.proofs.words.word.Statement.{statement}
 use Rattle.tables.proofs.words.word.Tie as tie
 

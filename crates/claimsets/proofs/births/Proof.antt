@@ -1,0 +1,63 @@
+-- The invariant: the row has what the roles below r create.
+use Prim.Native.Nat.{_≤_, _-_}
+use mathlib.Core.Path.{_≡_, sym, _∙_}
+use mathlib.Core.Logic.{⊎-elim}
+use native.Mathlib.Omega.{arith}
+use borrow.Author.Needs.{needs}
+use Rattle.sets.specs.Sets.{union}
+use Rattle.sets.proofs.Sets.{union-next}
+use Rattle.claimsets.specs.Family.{makes, born, rowOf}
+use Rattle.claimsets.proofs.Family.{row-at, row-same, no-births}
+use Rattle.claimsets.proofs.births.Statement.{statement}
+use Rattle.claimsets.proofs.births.Tie as tie
+
+abbrev Inv-loop : tie.InvT-loop
+Inv-loop t roles row₀ r₀ row r = (row ≡ rowOf (λ k. union r (roles .bits) (makes t k))) × (r ≤ 32)
+
+abbrev μ-loop : tie.MeasureT-loop
+μ-loop t roles row₀ r₀ row r = 32 - r
+
+loop-holds : tie.Need-loop-holds Inv-loop μ-loop
+unfolding rowOf
+loop-holds c = let a = c .before .args in (no-births (a .t .now) (a .roles .bits), search needs)
+
+has-requires : tie.Need-has-requires Inv-loop μ-loop
+has-requires c κs = search needs
+
+with-role-requires : tie.Need-with-role-requires Inv-loop μ-loop
+with-role-requires c κs = search needs
+
+add-r : tie.Need-add-r Inv-loop μ-loop
+add-r c = search needs
+
+loop-less : tie.Need-loop-less Inv-loop μ-loop
+loop-less c = search needs
+
+loop-again : tie.Need-loop-again Inv-loop μ-loop
+loop-again c =
+    let h = sym (c .before .has .ensures) in
+    let i = c .before .before .before .loop .inv in
+    ⊎-elim
+    (λ x. (rw (x .2, x .1 .ensures, i .0) (row-same _ _ (λ k l. rw (row-at _ k l, union-next, h ∙ x .0 .taken))), search needs))
+    (λ x. (rw (x .1, i .0) (row-same _ _ (λ k l. rw (union-next, h ∙ x .0 .left))), search needs))
+    (c .if1 .came)
+
+returns : tie.Need-returns Inv-loop μ-loop
+unfolding born
+returns c =
+    let e : c .before .loop .r ≡ 32 = omega arith in
+    rw e at (c .before .loop .inv .0)
+
+pub births-spec : {M : Type 1} → statement M
+births-spec =
+    tie.close
+    (tie.spec
+    Inv-loop
+    μ-loop
+    loop-holds
+    has-requires
+    with-role-requires
+    add-r
+    loop-less
+    loop-again
+    returns)

@@ -1,0 +1,91 @@
+// The library for C: a row of tables is lent to each function as a pointer and a number of words. include/monitor.h is its face.
+use claims::check;
+use effective::queries::query_forced;
+use effective::queries::query_initial;
+use effective::queries::query_type;
+use formed::fresh;
+use formed::well_formed;
+use kinds::Decoded;
+use kinds::decode;
+use model::Answer;
+use model::Found;
+use model::Verdict;
+use monitor::act;
+use rules::refusal::refused;
+ghost use mathlib.Core.Path.{_≡_};
+ghost use Rattle.model.specs.Outcome.{outcome};
+ghost use Rattle.model.specs.WellFormed.{wellFormed};
+ghost use Rattle.model.specs.Fresh.{build};
+ghost use Rattle.model.specs.Effective.{queryType, queryInitial, queryForced};
+ghost use Rattle.model.specs.Claims.{check as checkOf};
+ghost use Rattle.clib.specs.Calls.{callOf};
+
+// One call of a process, by its kind and its numbers; the tables are tested once.
+#[no_mangle]
+pub extern "C" fn rc_call(
+    tables: &mut [u32],
+    kind: u32,
+    caller: u32,
+    a: u32,
+    b: u32,
+    c: u32,
+    d: u32,
+) -> Answer
+    ensures { λ r. ⌜ outcome r (now (tables .exit)) ≡ callOf (now (tables .entry)) kind caller a b c d ⌝ }
+{
+    if !well_formed(tables) {
+        return refused(1);
+    }
+    match decode(kind, a, b, c, d) {
+        Decoded::Unknown => refused(2),
+        Decoded::Known(call) => act(tables, caller, call),
+    }
+}
+
+// Fresh tables over whatever the row held.
+#[no_mangle]
+pub extern "C" fn rc_fresh(tables: &mut [u32]) -> Answer
+    ensures { λ r. ⌜ outcome r (now (tables .exit)) ≡ build (now (tables .entry)) ⌝ }
+{
+    fresh(tables)
+}
+
+// Whether the tables are well formed.
+#[no_mangle]
+pub extern "C" fn rc_well_formed(tables: &[u32]) -> bool
+    ensures { λ r. ⌜ r ≡ wellFormed (now (tables .entry)) ⌝ }
+{
+    well_formed(tables)
+}
+
+// The effective type of a file or directory (rule 5).
+#[no_mangle]
+pub extern "C" fn rc_effective_type(tables: &[u32], file: u32) -> Found
+    ensures { λ r. ⌜ r ≡ queryType (now (tables .entry)) file ⌝ }
+{
+    query_type(tables, file)
+}
+
+// Its effective initial value (rule 17).
+#[no_mangle]
+pub extern "C" fn rc_effective_initial(tables: &[u32], file: u32) -> Found
+    ensures { λ r. ⌜ r ≡ queryInitial (now (tables .entry)) file ⌝ }
+{
+    query_initial(tables, file)
+}
+
+// Its effective forced value (rule 19).
+#[no_mangle]
+pub extern "C" fn rc_effective_forced(tables: &[u32], file: u32) -> Found
+    ensures { λ r. ⌜ r ≡ queryForced (now (tables .entry)) file ⌝ }
+{
+    query_forced(tables, file)
+}
+
+// The verdict on a claim, by rules C1 to C9.
+#[no_mangle]
+pub extern "C" fn rc_check_claim(tables: &[u32], claim: &[u32]) -> Verdict
+    ensures { λ r. ⌜ r ≡ checkOf (now (tables .entry)) (now (claim .entry)) ⌝ }
+{
+    check(tables, claim)
+}

@@ -1,0 +1,44 @@
+-- The tests in their order.
+-- Assumes nothing.
+use borrow.Author.Needs.{needs}
+use Rattle.hosts.specs.Records.{roleNo, roleAnswer}
+use Rattle.hosts.proofs.role_answer.Statement.{statement}
+use Rattle.hosts.proofs.role_answer.Tie as tie
+
+role-at-requires : tie.Need-role-at-requires
+role-at-requires c κs = search needs
+
+unless-requires : tie.Need-unless-requires
+unless-requires c κs = search needs
+
+unless-requires-2 : tie.Need-unless-requires-2
+unless-requires-2 c κs = search needs
+
+has-requires : tie.Need-has-requires
+has-requires c κs = search needs
+
+unless-requires-3 : tie.Need-unless-requires-3
+unless-requires-3 c κs = search needs
+
+first-requires : tie.Need-first-requires
+first-requires c κs = search needs
+
+first-requires-2 : tie.Need-first-requires-2
+first-requires-2 c κs = search needs
+
+returns : tie.Need-returns
+unfolding roleAnswer roleNo
+returns c = cc
+
+pub role-answer-spec : {M : Type 1} → statement M
+role-answer-spec =
+    tie.close
+    (tie.spec
+    role-at-requires
+    unless-requires
+    unless-requires-2
+    first-requires
+    has-requires
+    unless-requires-3
+    first-requires-2
+    returns)

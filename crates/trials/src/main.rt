@@ -1,0 +1,18 @@
+// What the scope document asks to be run: the marked examples, every table filled to its last place, and each number once.
+// A line tells a trial and what it came to; every group of trials begins with fresh tables.
+use model::numbers::ROW_LENGTH;
+
+mod claim;
+mod examples;
+mod full;
+mod numbers;
+mod tell;
+
+fn main() {
+    let mut t = [0u32; ROW_LENGTH];
+    examples::run(&mut t);
+    claim::example(&mut t);
+    full::run(&mut t);
+    numbers::run(&mut t);
+    claim::numbers(&mut t);
+}

@@ -1,0 +1,201 @@
+/* The access-control monitor, as C sees it.
+
+   All tables lie in one row of RC_WORDS words. The row is yours: you keep it, and you lend it to each call, as a pointer
+   and the number of words there. No function allocates memory, keeps a pointer, or touches anything but what it is lent.
+   Every function answers every input: any numbers, and any row, whatever its length and content. A refusal changes
+   nothing. What you see to is that the words are really there, and that no row is lent to two calls at the same time. */
+#ifndef RC_MONITOR_H
+#define RC_MONITOR_H
+
+#include <stddef.h>
+#include <stdint.h>
+#ifndef __cplusplus
+#include <stdbool.h>
+#endif
+
+/* ---- The row ----
+   Each table begins at a fixed word and has places of a fixed number of words: the type value of file 7, for one, is
+   row[RC_FILES_AT + RC_FILE_WORDS * 7 + RC_FILE_TYPE]. The first word of a process, an IPC object or a file tells whether
+   its place is taken; a free place holds zeros only. */
+#define RC_WORDS 5376u
+
+#define RC_PROCESSES_AT 0u /* 64 processes */
+#define RC_PROCESSES 64u
+#define RC_PROCESS_WORDS 5u
+#define RC_PROCESS_LIVE 0u   /* 1 live, 0 free */
+#define RC_PROCESS_OWNER 1u  /* a user */
+#define RC_PROCESS_ROLE 2u   /* the current role */
+#define RC_PROCESS_TYPE 3u   /* 0 to 31 */
+#define RC_PROCESS_FORCED 4u /* a role, or RC_INHERIT_USER, RC_INHERIT_PROCESS, RC_UP_MIXED */
+
+#define RC_USERS_AT 320u /* 32 users */
+#define RC_USERS 32u
+#define RC_USER_WORDS 1u
+#define RC_USER_ROLE 0u /* the default role */
+
+#define RC_ROLES_AT 352u /* 32 roles */
+#define RC_ROLES 32u
+#define RC_ROLE_WORDS 9u
+#define RC_ROLE_COMPATIBLE 0u      /* a set of roles: bit r is role r */
+#define RC_ROLE_ADMIN 1u           /* a set of roles */
+#define RC_ROLE_ASSIGN 2u          /* a set of roles */
+#define RC_ROLE_MARK 3u            /* 1 Role Admin, 0 not */
+#define RC_ROLE_FILE_CREATE 4u     /* a type, or RC_INHERIT_PARENT */
+#define RC_ROLE_PROCESS_CREATE 5u  /* a type, or RC_INHERIT_PARENT */
+#define RC_ROLE_PROCESS_EXECUTE 6u /* a type, or RC_INHERIT_PARENT */
+#define RC_ROLE_PROCESS_CHOWN 7u   /* a type, RC_INHERIT_PARENT or RC_USE_NEW_ROLE_DEF_CREATE */
+#define RC_ROLE_IPC_CREATE 8u      /* a type */
+
+#define RC_IPCS_AT 640u /* 64 IPC objects */
+#define RC_IPCS 64u
+#define RC_IPC_WORDS 2u
+#define RC_IPC_LIVE 0u /* 1 live, 0 free */
+#define RC_IPC_TYPE 1u /* 0 to 31 */
+
+#define RC_FILES_AT 768u /* 256 files and directories; place 0 is the root */
+#define RC_FILES 256u
+#define RC_FILE_WORDS 6u
+#define RC_FILE_KIND 0u    /* RC_FREE, RC_FILE or RC_DIR */
+#define RC_FILE_PARENT 1u  /* a place; 0 for the root */
+#define RC_FILE_DEPTH 2u   /* 0 for the root, at most RC_DEPTH_MOST */
+#define RC_FILE_TYPE 3u    /* a type, or RC_INHERIT_PARENT */
+#define RC_FILE_INITIAL 4u /* a role, RC_INHERIT_PARENT or RC_USE_FORCED_ROLE */
+#define RC_FILE_FORCED 5u  /* a role, RC_INHERIT_PARENT, RC_INHERIT_USER, RC_INHERIT_PROCESS or RC_UP_MIXED */
+#define RC_DEPTH_MOST 15u
+#define RC_FREE 0u
+#define RC_FILE 1u
+#define RC_DIR 2u
+
+#define RC_RIGHTS_AT 2304u /* 3 groups, 32 roles in each, 32 types in each: one set of rights for each entry */
+#define RC_GROUPS 3u
+#define RC_TYPES 32u
+#define RC_RIGHTS_ENTRY(group, role, type) (RC_RIGHTS_AT + ((group)*RC_ROLES + (role)) * RC_TYPES + (type))
+#define RC_GROUP_FILESYSTEM 0u
+#define RC_GROUP_PROCESS 1u
+#define RC_GROUP_IPC 2u
+
+/* ---- Special values ---- roles and types themselves are 0 to 31 */
+#define RC_INHERIT_PARENT 32u          /* in roles and in types */
+#define RC_USE_NEW_ROLE_DEF_CREATE 33u /* in types */
+#define RC_USE_FORCED_ROLE 33u         /* in roles, as the three below */
+#define RC_INHERIT_USER 34u
+#define RC_INHERIT_PROCESS 35u
+#define RC_UP_MIXED 36u
+
+/* ---- Rights ---- 8 to 27 are spare; the last four are the special rights */
+#define RC_RIGHTS 32u
+#define RC_RIGHT_READ 0u
+#define RC_RIGHT_WRITE 1u
+#define RC_RIGHT_EXECUTE 2u
+#define RC_RIGHT_CREATE 3u
+#define RC_RIGHT_DELETE 4u
+#define RC_RIGHT_CHANGE_OWNER 5u
+#define RC_RIGHT_CLONE 6u
+#define RC_RIGHT_MODIFY_ATTRIBUTE 7u
+#define RC_RIGHT_ADMIN 28u
+#define RC_RIGHT_ASSIGN 29u
+#define RC_RIGHT_ACCESS_CONTROL 30u
+#define RC_RIGHT_SUPERVISOR 31u
+
+/* ---- The answer to a call ---- the lowest number that applies */
+#define RC_GRANTED 0u
+#define RC_ILL_FORMED 1u    /* the tables are not well formed, or the row or the claim has a wrong length */
+#define RC_OUT_OF_RANGE 2u  /* a number of the call is out of its range */
+#define RC_NOT_LIVE 3u      /* the calling process, or the process of a claim, is not live */
+#define RC_NO_SUCH_PLACE 4u /* a named place is free, or of a kind that the call does not take */
+#define RC_NOT_ALLOWED 5u   /* the rules do not allow it */
+#define RC_NOT_REMOVABLE 6u /* the root, process 0 or a DIR with children is to be removed */
+#define RC_TOO_DEEP 7u      /* the new object would have depth 16 */
+#define RC_FULL 8u          /* no place in that table is free */
+#define RC_CLAIM_BROKEN 9u  /* the claim breaks a rule */
+
+/* ---- Kinds of call ---- with their numbers a, b, c, d; those that a kind does not use are 0 */
+#define RC_CALL_ACCESS 1u             /* group, object, right (0 to 27) */
+#define RC_CALL_CLONE 2u              /* answers the child's place */
+#define RC_CALL_EXIT 3u               /* of the caller itself */
+#define RC_CALL_EXECUTE 4u            /* file */
+#define RC_CALL_CHANGE_OWNER 5u       /* user */
+#define RC_CALL_CHANGE_ROLE 6u        /* role */
+#define RC_CALL_CREATE 7u             /* RC_FILE or RC_DIR, parent; answers the new place */
+#define RC_CALL_DELETE 8u             /* file */
+#define RC_CALL_CREATE_IPC 9u         /* answers the new place */
+#define RC_CALL_DELETE_IPC 10u        /* object */
+#define RC_CALL_ADD_ROLE 11u          /* RC_SET_..., the role whose set changes, member */
+#define RC_CALL_REMOVE_ROLE 12u       /* the same */
+#define RC_CALL_SET_USER_ROLE 13u     /* user, role */
+#define RC_CALL_SET_INITIAL 14u       /* file, value */
+#define RC_CALL_SET_FORCED 15u        /* file, value */
+#define RC_CALL_SET_PROCESS_FORCED 16u /* process, value */
+#define RC_CALL_SET_DEFAULT_TYPE 17u  /* RC_DEFAULT_..., role, value */
+#define RC_CALL_SET_ROLE_ADMIN 18u    /* role, mark (1 or 0) */
+#define RC_CALL_SET_TYPE 19u          /* group, object, value */
+#define RC_CALL_ADD_RIGHT 20u         /* group, role, type, right (0 to 31) */
+#define RC_CALL_REMOVE_RIGHT 21u      /* the same */
+
+#define RC_SET_COMPATIBLE 0u
+#define RC_SET_ADMIN 1u
+#define RC_SET_ASSIGN 2u
+
+#define RC_DEFAULT_FILE_CREATE 0u
+#define RC_DEFAULT_PROCESS_CREATE 1u
+#define RC_DEFAULT_PROCESS_EXECUTE 2u
+#define RC_DEFAULT_PROCESS_CHOWN 3u
+#define RC_DEFAULT_IPC_CREATE 4u
+
+/* ---- The row of a claim ---- */
+#define RC_CLAIM_WORDS 260u
+#define RC_CLAIM_PROCESS 0u
+#define RC_CLAIM_TYPE 1u          /* the protected filesystem type */
+#define RC_CLAIM_ROLES 2u         /* S, a set of roles */
+#define RC_CLAIM_PROCESS_TYPES 3u /* Q, a set of process types */
+#define RC_CLAIM_FILE_TYPES 4u    /* T(0) to T(255), a set of filesystem types for each file place */
+
+#ifdef __cplusplus
+extern "C" {
+#endif
+
+struct rc_answer {
+    uint32_t number; /* 0 to 8 */
+    uint32_t place;  /* the new place after a granted clone or creation, else 0 */
+};
+
+struct rc_found {
+    uint32_t number;  /* 0, 1, 2 or 4; other than 0, the rest is 0 */
+    uint32_t value;   /* the effective value, never RC_INHERIT_PARENT */
+    uint32_t climbed; /* how many parents were climbed, 0 to 15 */
+};
+
+struct rc_verdict {
+    uint32_t number; /* 0, 1, 2, 3 or 9 */
+    uint32_t rule;   /* with 9 the first rule broken, 1 to 9, else 0 */
+};
+
+/* Makes one call of a process: tests the tables, decides, and on a grant makes the change. */
+struct rc_answer rc_call(uint32_t *tables, size_t words, uint32_t kind, uint32_t caller, uint32_t a, uint32_t b,
+                         uint32_t c, uint32_t d);
+
+/* Writes fresh tables over whatever the row holds; asks only that it has RC_WORDS words. */
+struct rc_answer rc_fresh(uint32_t *tables, size_t words);
+
+/* Tells whether the tables are well formed. Fresh tables are, and every call keeps them so. */
+bool rc_well_formed(const uint32_t *tables, size_t words);
+
+/* The effective type of a file or directory, and how many parents were climbed to find it. */
+struct rc_found rc_effective_type(const uint32_t *tables, size_t words, uint32_t file);
+
+/* The effective initial value of a file or directory: a role or RC_USE_FORCED_ROLE. */
+struct rc_found rc_effective_initial(const uint32_t *tables, size_t words, uint32_t file);
+
+/* The effective forced value of a file or directory: a role, RC_INHERIT_USER, RC_INHERIT_PROCESS or RC_UP_MIXED. */
+struct rc_found rc_effective_forced(const uint32_t *tables, size_t words, uint32_t file);
+
+/* Checks a claim of RC_CLAIM_WORDS words by the rules C1 to C9. Accepted with 0, the process and all that it clones hold
+   only the roles of S, are granted no administration call (kinds 11 to 21) and never write, delete or create an object
+   of the protected type, whatever calls are made, for as long as no process outside is granted one either. */
+struct rc_verdict rc_check_claim(const uint32_t *tables, size_t words, const uint32_t *claim, size_t claim_words);
+
+#ifdef __cplusplus
+}
+#endif
+
+#endif

@@ -1,0 +1,126 @@
+/* bench ITEM WHO TIMES: does one piece of work so many times, by the library, by the plain version, or by the plain
+   version without its test of the tables ("bare"). Who counts its instructions takes the difference of two runs.
+   bench: prints the items, each with the number of its calls, one to a line. */
+#include "../plain/monitor.h"
+#include "tables.h"
+#include <stdio.h>
+#include <stdlib.h>
+#include <string.h>
+
+enum who { LIBRARY, PLAIN, BARE };
+
+static uint32_t row[RC_WORDS], claim[RC_CLAIM_WORDS];
+static uint32_t refused; /* stays 0: every call of the benchmark is granted */
+
+/* The calls of each of the three; not inlined, so that all pay the same for the way there. */
+__attribute__((noinline)) static void call(enum who who, uint32_t kind, uint32_t caller, uint32_t a, uint32_t b,
+                                           uint32_t c)
+{
+    if (who == LIBRARY)
+        refused |= rc_call(row, RC_WORDS, kind, caller, a, b, c, 0).number;
+    else if (who == PLAIN)
+        refused |= plain_call(row, RC_WORDS, kind, caller, a, b, c, 0).number;
+    else
+        refused |= plain_act(row, kind, caller, a, b, c, 0).number;
+}
+
+__attribute__((noinline)) static void well_formed(enum who who)
+{
+    if (who == LIBRARY)
+        refused |= !rc_well_formed(row, RC_WORDS);
+    else if (who == PLAIN)
+        refused |= !plain_well_formed(row, RC_WORDS);
+}
+
+__attribute__((noinline)) static void climb(enum who who)
+{
+    if (who == LIBRARY)
+        refused |= rc_effective_type(row, RC_WORDS, DEEP).number;
+    else if (who == PLAIN)
+        refused |= plain_effective_type(row, RC_WORDS, DEEP).number;
+    else
+        refused |= plain_climb_type(row, DEEP).number;
+}
+
+__attribute__((noinline)) static void check_claim(enum who who)
+{
+    if (who == LIBRARY)
+        refused |= rc_check_claim(row, RC_WORDS, claim, RC_CLAIM_WORDS).number;
+    else if (who == PLAIN)
+        refused |= plain_check_claim(row, RC_WORDS, claim, RC_CLAIM_WORDS).number;
+    else
+        refused |= plain_judge_claim(row, claim).number;
+}
+
+static void access_file(enum who who)
+{
+    call(who, RC_CALL_ACCESS, CALLER, RC_GROUP_FILESYSTEM, PROGRAM, RC_RIGHT_READ);
+}
+
+static void clone_exit(enum who who)
+{
+    call(who, RC_CALL_CLONE, CALLER, 0, 0, 0);
+    call(who, RC_CALL_EXIT, LAST_PROCESS, 0, 0, 0);
+}
+
+static void execute(enum who who)
+{
+    call(who, RC_CALL_EXECUTE, CALLER, PROGRAM, 0, 0);
+}
+
+static void owner_role(enum who who)
+{
+    call(who, RC_CALL_CHANGE_OWNER, CALLER, 2, 0, 0); /* to role 4 */
+    call(who, RC_CALL_CHANGE_ROLE, CALLER, 3, 0, 0);
+}
+
+static void create_delete(enum who who)
+{
+    call(who, RC_CALL_CREATE, CALLER, RC_DIR, FOLDER, 0);
+    call(who, RC_CALL_DELETE, CALLER, LAST_FILE, 0, 0);
+}
+
+static const struct {
+    const char *name, *what;
+    int calls;
+    void (*work)(enum who);
+    void (*tables)(uint32_t *, uint32_t *);
+} items[] = {
+    {"well-formed", "well formed", 1, well_formed, NULL},
+    {"access", "access", 1, access_file, NULL},
+    {"clone-exit", "clone and exit (2 calls)", 2, clone_exit, NULL},
+    {"execute", "execute", 1, execute, NULL},
+    {"owner-role", "owner and role (2 calls)", 2, owner_role, NULL},
+    {"create-delete", "create, delete (2 calls)", 2, create_delete, NULL},
+    {"climb", "effective type, depth 15", 1, climb, NULL},
+    {"claim-dense", "claim accepted, dense", 1, check_claim, dense_claim},
+    {"claim-sparse", "claim accepted, sparse", 1, check_claim, sparse_claim},
+};
+
+#define ITEMS (sizeof items / sizeof items[0])
+
+int main(int argc, char **argv)
+{
+    if (argc != 4) {
+        for (size_t i = 0; i < ITEMS; i++)
+            printf("%s %d %s\n", items[i].name, items[i].calls, items[i].what);
+        return 0;
+    }
+    enum who who = strcmp(argv[2], "library") == 0 ? LIBRARY : strcmp(argv[2], "plain") == 0 ? PLAIN : BARE;
+    for (size_t i = 0; i < ITEMS; i++) {
+        if (strcmp(items[i].name, argv[1]) != 0)
+            continue;
+        if (items[i].tables)
+            items[i].tables(row, claim);
+        else
+            busy_tables(row);
+        for (long times = atol(argv[3]); times > 0; times--)
+            items[i].work(who);
+        if (refused == 0)
+            return 0;
+        fprintf(stderr, "bench: a call of %s was refused\n", argv[1]);
+        return 1;
+    }
+    fprintf(stderr, "bench: no item %s\n", argv[1]);
+    return 2;
+}

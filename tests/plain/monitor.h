@@ -1,0 +1,23 @@
+/* The monitor once more, in plain C, written from the documents alone: a second opinion on every answer, and the
+   yardstick for speed. Each function does what its namesake rc_... of the library promises. */
+#ifndef PLAIN_MONITOR_H
+#define PLAIN_MONITOR_H
+
+#include "../../include/monitor.h"
+
+struct rc_answer plain_call(uint32_t *tables, size_t words, uint32_t kind, uint32_t caller, uint32_t a, uint32_t b,
+                            uint32_t c, uint32_t d);
+struct rc_answer plain_fresh(uint32_t *tables, size_t words);
+bool plain_well_formed(const uint32_t *tables, size_t words);
+struct rc_found plain_effective_type(const uint32_t *tables, size_t words, uint32_t file);
+struct rc_found plain_effective_initial(const uint32_t *tables, size_t words, uint32_t file);
+struct rc_found plain_effective_forced(const uint32_t *tables, size_t words, uint32_t file);
+struct rc_verdict plain_check_claim(const uint32_t *tables, size_t words, const uint32_t *claim, size_t claim_words);
+
+/* The same without the test of the tables, for tables that are known to be well formed. */
+struct rc_answer plain_act(uint32_t *tables, uint32_t kind, uint32_t caller, uint32_t a, uint32_t b, uint32_t c,
+                           uint32_t d);
+struct rc_found plain_climb_type(const uint32_t *tables, uint32_t file);
+struct rc_verdict plain_judge_claim(const uint32_t *tables, const uint32_t *claim);
+
+#endif
