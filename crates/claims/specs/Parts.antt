@@ -13,7 +13,7 @@ use Rattle.model.specs.Claims.{processIn, Q, T, startable, carried, C6, C7, C8,
 use Rattle.claimsets.specs.Family.{reach, born, rowOf, closed}
 use Rattle.claims.specs.declared.files.Carried.{Carried}
 
--- C6 of the place o, where a row has what all roles create below each type
+-- C6 of the place o, where a row has what is created below each type
 unfoldable pub holdsBy : List ℕ → List ℕ → List ℕ → ℕ → Bool
 holdsBy row t w o =
     cond (occupied t FILESYSTEM o)
