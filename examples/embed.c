@@ -1,36 +1,84 @@
-/* The monitor in a C program: fresh tables, one administration call, an access refused and one granted, a query.
-   At the top of the repository this proves and builds the library, then builds and runs the program:
+/* The monitor in a C program: a process is started for a user, a claim about it is checked, and a careless right breaks
+   that claim. `make example` at the top of the repository builds and runs it; where the library is installed:
 
-   rt staticlib clib && gcc -std=c11 examples/embed.c target/staticlib/libclib.a -o target/embed && target/embed */
-#include "../include/monitor.h"
+   cc examples/embed.c $(pkg-config --cflags --libs rcmonitor) -o embed && ./embed */
 #include <inttypes.h>
+#include <monitor.h>
 #include <stdio.h>
+
+#define USER 1u
+#define ROLE 1u
+#define PROTECTED 5u
 
 static uint32_t tables[RC_WORDS];
 
-/* Process 0 asks; it is the one that fresh tables have, and its role 0 is Role Admin. */
-static struct rc_answer ask(const char *what, uint32_t kind, uint32_t a, uint32_t b, uint32_t c, uint32_t d)
+/* One call, told with its answer. */
+static struct rc_answer ask(uint32_t caller, uint32_t kind, uint32_t a, uint32_t b, uint32_t c, uint32_t d)
 {
-    struct rc_answer answer = rc_call(tables, RC_WORDS, kind, 0, a, b, c, d);
-    printf("%-36s number %" PRIu32 ", place %" PRIu32 "\n", what, answer.number, answer.place);
+    struct rc_answer answer = rc_call(tables, RC_WORDS, kind, caller, a, b, c, d);
+    printf("process %" PRIu32 ", %s", caller, rc_kind_text(kind));
+    if (kind == RC_CALL_ADD_RIGHT)
+        printf(" %s", rc_right_text(d));
+    printf(": %s", rc_number_text(answer.number));
+    if (answer.place)
+        printf(", place %" PRIu32, answer.place);
+    printf("\n");
     return answer;
+}
+
+/* The create types of the roles that may create below a type of the set, as C6 asks. */
+static uint32_t created_below(uint32_t types)
+{
+    for (uint32_t role = 0; role < RC_ROLES; role++) {
+        uint32_t create = tables[RC_ROLES_AT + RC_ROLE_WORDS * role + RC_ROLE_FILE_CREATE];
+        for (uint32_t type = 0; type < RC_TYPES; type++)
+            if (create < RC_TYPES && (types >> type & 1) &&
+                (tables[RC_RIGHTS_ENTRY(RC_GROUP_FILESYSTEM, role, type)] >> RC_RIGHT_CREATE & 1))
+                types |= 1u << create;
+    }
+    return types;
+}
+
+/* The least T of a file place. */
+static uint32_t types_of(uint32_t file)
+{
+    uint32_t kind = tables[RC_FILES_AT + RC_FILE_WORDS * file + RC_FILE_KIND];
+    if (kind == RC_FREE)
+        return 0;
+    uint32_t types = 1u << rc_effective_type(tables, RC_WORDS, file).value, before = 0;
+    while (kind == RC_DIR && types != before) {
+        before = types;
+        types = created_below(types);
+    }
+    return types;
+}
+
+/* The claim that a process stays in ROLE and process type 0, and never changes an object of type PROTECTED. */
+static struct rc_verdict check(uint32_t process)
+{
+    uint32_t claim[RC_CLAIM_WORDS] = {process, PROTECTED, 1u << ROLE, 1u << 0};
+    for (uint32_t file = 0; file < RC_FILES; file++)
+        claim[RC_CLAIM_FILE_TYPES + file] = types_of(file);
+    struct rc_verdict verdict = rc_check_claim(tables, RC_WORDS, claim, RC_CLAIM_WORDS);
+    printf("claim for process %" PRIu32 ": %s\n", process, verdict.number ? rc_number_text(verdict.number) : "accepted");
+    if (verdict.rule)
+        printf("  C%" PRIu32 ": %s\n", verdict.rule, rc_rule_text(verdict.rule));
+    return verdict;
 }
 
 int main(void)
 {
-    if (rc_fresh(tables, RC_WORDS).number != RC_GRANTED)
-        return 1;
+    rc_fresh(tables, RC_WORDS);
+    /* Process 0 is there and is Role Admin, and has no right yet, not even to clone itself. */
+    ask(0, RC_CALL_CLONE, 0, 0, 0, 0);
+    ask(0, RC_CALL_ADD_RIGHT, RC_GROUP_PROCESS, 0, 0, RC_RIGHT_CLONE);
+    ask(0, RC_CALL_ADD_RIGHT, RC_GROUP_PROCESS, 0, 0, RC_RIGHT_CHANGE_OWNER);
+    ask(0, RC_CALL_SET_USER_ROLE, USER, ROLE, 0, 0);
+    uint32_t child = ask(0, RC_CALL_CLONE, 0, 0, 0, 0).place;
+    ask(child, RC_CALL_CHANGE_OWNER, USER, 0, 0, 0);
 
-    /* Fresh tables grant no right, to Role Admin neither: the root, which has type 0, cannot be read yet. */
-    struct rc_answer before = ask("read the root", RC_CALL_ACCESS, RC_GROUP_FILESYSTEM, 0, RC_RIGHT_READ, 0);
-    struct rc_answer added =
-        ask("give role 0 READ to type 0", RC_CALL_ADD_RIGHT, RC_GROUP_FILESYSTEM, 0, 0, RC_RIGHT_READ);
-    struct rc_answer after = ask("read the root again", RC_CALL_ACCESS, RC_GROUP_FILESYSTEM, 0, RC_RIGHT_READ, 0);
-
-    struct rc_found type = rc_effective_type(tables, RC_WORDS, 0);
-    printf("%-36s number %" PRIu32 ", type %" PRIu32 ", %" PRIu32 " parents climbed\n", "effective type of the root",
-           type.number, type.value, type.climbed);
-
-    return !(before.number == RC_NOT_ALLOWED && added.number == RC_GRANTED && after.number == RC_GRANTED &&
-             type.number == RC_GRANTED && rc_well_formed(tables, RC_WORDS));
+    struct rc_verdict before = check(child);
+    ask(0, RC_CALL_ADD_RIGHT, RC_GROUP_FILESYSTEM, ROLE, PROTECTED, RC_RIGHT_WRITE);
+    struct rc_verdict after = check(child);
+    return !(before.number == RC_GRANTED && after.number == RC_CLAIM_BROKEN && rc_well_formed(tables, RC_WORDS));
 }

@@ -3,7 +3,14 @@
    All tables lie in one row of RC_WORDS words. The row is yours: you keep it, and you lend it to each call, as a pointer
    and the number of words there. No function allocates memory, keeps a pointer, or touches anything but what it is lent.
    Every function answers every input: any numbers, and any row, whatever its length and content. A refusal changes
-   nothing. What you see to is that the words are really there, and that no row is lent to two calls at the same time. */
+   nothing. What you see to is that the words are really there.
+
+   At the same time: the library has no state of its own and takes no lock, so calls on different rows never meet. On one
+   row, any number of the functions that take it as const may run together; rc_call and rc_fresh each want it alone.
+
+   The library is an archive, librcmonitor.a, for programs on x86-64 (System V calling convention); its code may also go
+   into a shared object. From outside it needs memset and memcpy. At the top of the repository `make lib` proves and
+   builds it, `make install` installs it, and `make example` runs two small programs that use it. */
 #ifndef RC_MONITOR_H
 #define RC_MONITOR_H
 
@@ -16,7 +23,9 @@
 /* ---- The row ----
    Each table begins at a fixed word and has places of a fixed number of words: the type value of file 7, for one, is
    row[RC_FILES_AT + RC_FILE_WORDS * 7 + RC_FILE_TYPE]. The first word of a process, an IPC object or a file tells whether
-   its place is taken; a free place holds zeros only. */
+   its place is taken; a free place holds zeros only. If you keep rows longer than a program runs, keep the layout's
+   version beside them: it is raised whenever a word of the tables or of a claim moves or changes its meaning. */
+#define RC_LAYOUT_VERSION 1
 #define RC_WORDS 5376u
 
 #define RC_PROCESSES_AT 0u /* 64 processes */
@@ -142,7 +151,27 @@
 #define RC_DEFAULT_PROCESS_CHOWN 3u
 #define RC_DEFAULT_IPC_CREATE 4u
 
-/* ---- The row of a claim ---- */
+/* ---- The row of a claim ----
+   A claim says of a process that it and all that it clones, its family, stay in the roles S and the process types Q, where
+   the object at file place o, and what is newly created in it, has a type in T(o). Roles and types are bits: bit r of S is
+   role r. An object is startable when a role in S has EXECUTE to a type in its T. Carried are the process's forced value
+   and the effective forced value of each startable object. A value is plain when it is 0 to 31. The rules, in their order:
+
+   C1  The process's role is in S, and its type in Q.
+   C2  No role in S is Role Admin, has an admin or an assign role, or has ASSIGN to any type of any group.
+   C3  No role in S has WRITE, CREATE or DELETE to the protected type, or creates files of it by its default type.
+   C4  The compatible roles of each role in S are in S.
+   C5  The plain default types for process create, execute and chown of each role in S are in Q.
+   C6  T of a free place is empty. T(o) holds the effective type of o; and if o is a DIR, then for each of all 32 roles
+       that has CREATE to a type in T(o), that role's default type for file create, where plain, is in T(o) too.
+   C7  The effective initial role of each startable object, where plain, is in S, and so is each plain carried value.
+   C8  If RC_INHERIT_USER is carried, the default role of the process's owner is in S.
+   C9  If a role in S has CHANGE_OWNER to a type in Q, and RC_INHERIT_USER or RC_UP_MIXED is carried, then the default
+       role of every user is in S.
+
+   To fill T(o): 0 where row[RC_FILES_AT + RC_FILE_WORDS * o] is RC_FREE; else the bit of what rc_effective_type answers
+   for o; and if o is a DIR, add the create types that C6 asks for, and again, until none is added. A larger T(o) can only
+   make more objects startable, and so break C7 to C9: the least set is the best one. */
 #define RC_CLAIM_WORDS 260u
 #define RC_CLAIM_PROCESS 0u
 #define RC_CLAIM_TYPE 1u          /* the protected filesystem type */
@@ -193,6 +222,92 @@ struct rc_found rc_effective_forced(const uint32_t *tables, size_t words, uint32
    only the roles of S, are granted no administration call (kinds 11 to 21) and never write, delete or create an object
    of the protected type, whatever calls are made, for as long as no process outside is granted one either. */
 struct rc_verdict rc_check_claim(const uint32_t *tables, size_t words, const uint32_t *claim, size_t claim_words);
+
+/* ---- In words ---- short texts for a log or a person; a number that is none of its kind has the text "unknown" */
+
+/* What a call, a query or a claim was answered, RC_GRANTED to RC_CLAIM_BROKEN. */
+static inline const char *rc_number_text(uint32_t number)
+{
+    switch (number) {
+    case RC_GRANTED: return "granted";
+    case RC_ILL_FORMED: return "the tables are not well formed, or a row has a wrong length";
+    case RC_OUT_OF_RANGE: return "a number is out of its range";
+    case RC_NOT_LIVE: return "the process is not live";
+    case RC_NO_SUCH_PLACE: return "a named place is free, or of the wrong kind";
+    case RC_NOT_ALLOWED: return "the rules do not allow it";
+    case RC_NOT_REMOVABLE: return "the root, process 0 or a directory with children is not removed";
+    case RC_TOO_DEEP: return "the new object would be too deep";
+    case RC_FULL: return "the table is full";
+    case RC_CLAIM_BROKEN: return "the claim breaks a rule";
+    default: return "unknown";
+    }
+}
+
+/* What it means that a claim breaks a rule, 1 to 9 for C1 to C9. */
+static inline const char *rc_rule_text(uint32_t rule)
+{
+    switch (rule) {
+    case 1: return "the process's role is not in S, or its type not in Q";
+    case 2: return "a role in S may administer";
+    case 3: return "a role in S may write, create or delete what is protected";
+    case 4: return "a role in S has a compatible role outside S";
+    case 5: return "a role in S gives a process a type outside Q";
+    case 6: return "a file place has or may get a type outside its T, or a free one has a T";
+    case 7: return "what the family can start, or the process itself, brings in a role outside S";
+    case 8: return "the default role of the process's owner may come in, and is outside S";
+    case 9: return "some user's default role may come in, and is outside S";
+    default: return "unknown";
+    }
+}
+
+/* A kind of call, RC_CALL_ACCESS to RC_CALL_REMOVE_RIGHT. */
+static inline const char *rc_kind_text(uint32_t kind)
+{
+    switch (kind) {
+    case RC_CALL_ACCESS: return "access";
+    case RC_CALL_CLONE: return "clone";
+    case RC_CALL_EXIT: return "exit";
+    case RC_CALL_EXECUTE: return "execute";
+    case RC_CALL_CHANGE_OWNER: return "change owner";
+    case RC_CALL_CHANGE_ROLE: return "change role";
+    case RC_CALL_CREATE: return "create file or directory";
+    case RC_CALL_DELETE: return "delete file or directory";
+    case RC_CALL_CREATE_IPC: return "create IPC object";
+    case RC_CALL_DELETE_IPC: return "delete IPC object";
+    case RC_CALL_ADD_ROLE: return "add role to a set";
+    case RC_CALL_REMOVE_ROLE: return "remove role from a set";
+    case RC_CALL_SET_USER_ROLE: return "set user's default role";
+    case RC_CALL_SET_INITIAL: return "set file's initial value";
+    case RC_CALL_SET_FORCED: return "set file's forced value";
+    case RC_CALL_SET_PROCESS_FORCED: return "set process's forced value";
+    case RC_CALL_SET_DEFAULT_TYPE: return "set role's default type";
+    case RC_CALL_SET_ROLE_ADMIN: return "set role's Role Admin mark";
+    case RC_CALL_SET_TYPE: return "set object's type";
+    case RC_CALL_ADD_RIGHT: return "add right";
+    case RC_CALL_REMOVE_RIGHT: return "remove right";
+    default: return "unknown";
+    }
+}
+
+/* A right, RC_RIGHT_READ to RC_RIGHT_SUPERVISOR. */
+static inline const char *rc_right_text(uint32_t right)
+{
+    switch (right) {
+    case RC_RIGHT_READ: return "READ";
+    case RC_RIGHT_WRITE: return "WRITE";
+    case RC_RIGHT_EXECUTE: return "EXECUTE";
+    case RC_RIGHT_CREATE: return "CREATE";
+    case RC_RIGHT_DELETE: return "DELETE";
+    case RC_RIGHT_CHANGE_OWNER: return "CHANGE_OWNER";
+    case RC_RIGHT_CLONE: return "CLONE";
+    case RC_RIGHT_MODIFY_ATTRIBUTE: return "MODIFY_ATTRIBUTE";
+    case RC_RIGHT_ADMIN: return "ADMIN";
+    case RC_RIGHT_ASSIGN: return "ASSIGN";
+    case RC_RIGHT_ACCESS_CONTROL: return "ACCESS_CONTROL";
+    case RC_RIGHT_SUPERVISOR: return "SUPERVISOR";
+    default: return right < RC_RIGHT_ADMIN ? "spare" : "unknown";
+    }
+}
 
 #ifdef __cplusplus
 }

@@ -1,55 +1,65 @@
-/* bench ITEM WHO TIMES: does one piece of work so many times, by the library, by the plain version, or by the plain
-   version without its test of the tables ("bare"). Who counts its instructions takes the difference of two runs.
+/* bench ITEM WHO TIMES: does one piece of work so many times, by the library, by the plain version, by the good one, or
+   by one of the two without its test of the tables. Who counts its instructions takes the difference of two runs.
+   bench same: whether the good version answers as the plain one does, on many rows and claims.
    bench: prints the items, each with the number of its calls, one to a line. */
 #include "../plain/monitor.h"
+#include "good.h"
+#include "same.h"
 #include "tables.h"
 #include <stdio.h>
 #include <stdlib.h>
 #include <string.h>
 
-enum who { LIBRARY, PLAIN, BARE };
+enum who { LIBRARY, PLAIN, PLAIN_BARE, GOOD, GOOD_BARE };
+
+static const char *const names[] = {"library", "plain", "plain-bare", "good", "good-bare"};
 
 static uint32_t row[RC_WORDS], claim[RC_CLAIM_WORDS];
 static uint32_t refused; /* stays 0: every call of the benchmark is granted */
 
-/* The calls of each of the three; not inlined, so that all pay the same for the way there. */
+/* The calls of each of them; not inlined, so that all pay the same for the way there. */
 __attribute__((noinline)) static void call(enum who who, uint32_t kind, uint32_t caller, uint32_t a, uint32_t b,
                                            uint32_t c)
 {
-    if (who == LIBRARY)
-        refused |= rc_call(row, RC_WORDS, kind, caller, a, b, c, 0).number;
-    else if (who == PLAIN)
-        refused |= plain_call(row, RC_WORDS, kind, caller, a, b, c, 0).number;
-    else
-        refused |= plain_act(row, kind, caller, a, b, c, 0).number;
+    switch (who) {
+    case LIBRARY: refused |= rc_call(row, RC_WORDS, kind, caller, a, b, c, 0).number; break;
+    case PLAIN: refused |= plain_call(row, RC_WORDS, kind, caller, a, b, c, 0).number; break;
+    case PLAIN_BARE: refused |= plain_act(row, kind, caller, a, b, c, 0).number; break;
+    case GOOD: refused |= good_call(row, RC_WORDS, kind, caller, a, b, c, 0).number; break;
+    case GOOD_BARE: refused |= good_act(row, kind, caller, a, b, c, 0).number; break;
+    }
 }
 
 __attribute__((noinline)) static void well_formed(enum who who)
 {
-    if (who == LIBRARY)
-        refused |= !rc_well_formed(row, RC_WORDS);
-    else if (who == PLAIN)
-        refused |= !plain_well_formed(row, RC_WORDS);
+    switch (who) {
+    case LIBRARY: refused |= !rc_well_formed(row, RC_WORDS); break;
+    case PLAIN: refused |= !plain_well_formed(row, RC_WORDS); break;
+    case GOOD: refused |= !good_well_formed(row, RC_WORDS); break;
+    default: break; /* nothing is left of it */
+    }
 }
 
 __attribute__((noinline)) static void climb(enum who who)
 {
-    if (who == LIBRARY)
-        refused |= rc_effective_type(row, RC_WORDS, DEEP).number;
-    else if (who == PLAIN)
-        refused |= plain_effective_type(row, RC_WORDS, DEEP).number;
-    else
-        refused |= plain_climb_type(row, DEEP).number;
+    switch (who) {
+    case LIBRARY: refused |= rc_effective_type(row, RC_WORDS, DEEP).number; break;
+    case PLAIN: refused |= plain_effective_type(row, RC_WORDS, DEEP).number; break;
+    case PLAIN_BARE: refused |= plain_climb_type(row, DEEP).number; break;
+    case GOOD: refused |= good_effective_type(row, RC_WORDS, DEEP).number; break;
+    case GOOD_BARE: refused |= good_climb_type(row, DEEP).number; break;
+    }
 }
 
 __attribute__((noinline)) static void check_claim(enum who who)
 {
-    if (who == LIBRARY)
-        refused |= rc_check_claim(row, RC_WORDS, claim, RC_CLAIM_WORDS).number;
-    else if (who == PLAIN)
-        refused |= plain_check_claim(row, RC_WORDS, claim, RC_CLAIM_WORDS).number;
-    else
-        refused |= plain_judge_claim(row, claim).number;
+    switch (who) {
+    case LIBRARY: refused |= rc_check_claim(row, RC_WORDS, claim, RC_CLAIM_WORDS).number; break;
+    case PLAIN: refused |= plain_check_claim(row, RC_WORDS, claim, RC_CLAIM_WORDS).number; break;
+    case PLAIN_BARE: refused |= plain_judge_claim(row, claim).number; break;
+    case GOOD: refused |= good_check_claim(row, RC_WORDS, claim, RC_CLAIM_WORDS).number; break;
+    case GOOD_BARE: refused |= good_judge_claim(row, claim).number; break;
+    }
 }
 
 static void access_file(enum who who)
@@ -99,28 +109,39 @@ static const struct {
 
 #define ITEMS (sizeof items / sizeof items[0])
 
+/* The number of a name in a list, or its length. */
+static size_t named(const char *name, const char *const *list, size_t length)
+{
+    size_t i = 0;
+    while (i < length && strcmp(list[i], name) != 0)
+        i++;
+    return i;
+}
+
 int main(int argc, char **argv)
 {
+    if (argc == 2 && strcmp(argv[1], "same") == 0)
+        return good_is_same() ? 0 : 1;
     if (argc != 4) {
         for (size_t i = 0; i < ITEMS; i++)
             printf("%s %d %s\n", items[i].name, items[i].calls, items[i].what);
         return 0;
     }
-    enum who who = strcmp(argv[2], "library") == 0 ? LIBRARY : strcmp(argv[2], "plain") == 0 ? PLAIN : BARE;
-    for (size_t i = 0; i < ITEMS; i++) {
-        if (strcmp(items[i].name, argv[1]) != 0)
-            continue;
-        if (items[i].tables)
-            items[i].tables(row, claim);
-        else
-            busy_tables(row);
-        for (long times = atol(argv[3]); times > 0; times--)
-            items[i].work(who);
-        if (refused == 0)
-            return 0;
-        fprintf(stderr, "bench: a call of %s was refused\n", argv[1]);
-        return 1;
+    size_t i = 0, who = named(argv[2], names, sizeof names / sizeof names[0]);
+    while (i < ITEMS && strcmp(items[i].name, argv[1]) != 0)
+        i++;
+    if (i == ITEMS || who == sizeof names / sizeof names[0]) {
+        fprintf(stderr, "bench: no item %s, or nobody %s\n", argv[1], argv[2]);
+        return 2;
     }
-    fprintf(stderr, "bench: no item %s\n", argv[1]);
-    return 2;
+    if (items[i].tables)
+        items[i].tables(row, claim);
+    else
+        busy_tables(row);
+    for (long times = atol(argv[3]); times > 0; times--)
+        items[i].work((enum who)who);
+    if (refused == 0)
+        return 0;
+    fprintf(stderr, "bench: a call of %s was refused\n", argv[1]);
+    return 1;
 }

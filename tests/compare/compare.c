@@ -1,11 +1,11 @@
-/* Compares the proved library with the plain version, which was written from the documents alone: on examples by hand,
-   then on many random tables and calls from fixed seeds. After every call all words and the answer must be the same,
-   and every answer that a kind of call can give must have come.
+/* Compares the proved library with the plain version, which was written from the documents alone: on the marked
+   examples by hand, then on many random tables and calls from fixed seeds. After every call all words and the answer
+   must be the same, and every answer that a kind of call can give must have come.
    compare          everything; the last line is "compare: ok", and the status 0, exactly when all is well
    compare SCALE    the same, with so many times the random cases */
 #include "calls.h"
 #include "claims.h"
-#include "examples.h"
+#include "marked.h"
 #include "random.h"
 #include "rows.h"
 #include "twin.h"
@@ -165,8 +165,8 @@ static void run_round(size_t part, uint64_t round)
 int main(int argc, char **argv)
 {
     uint64_t scale = argc > 1 ? strtoull(argv[1], NULL, 10) : 1;
-    bool ok = examples();
-    printf("examples a1 to a10, readings, full tables: %s\n", ok ? "as the document says" : "NOT as the document says");
+    bool ok = marked_examples();
+    printf("marked examples, readings, full tables: %s\n", ok ? "as the document says" : "NOT as the document says");
     for (size_t i = 0; i < PARTS; i++)
         printf("%s: seeds %" PRIu64 " to %" PRIu64 "\n", parts[i].name, first_seed(i),
                first_seed(i) + parts[i].cases * scale - 1);

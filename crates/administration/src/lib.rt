@@ -1,5 +1,63 @@
-// The administration calls (rules 23 to 34, H4 to H11), on tables that are known to be well formed. Each decides a number, and
-// where that is 0 writes one word of the row; each answers and leaves what `act` says, on any row.
-pub mod objects;
-pub mod roles;
-pub mod write;
+// The administration calls (rules 23 to 34, H4 to H11), each by a live caller with numbers in range (`monitor::act` has tested that). Each decides
+// a number, and where that is 0 writes one word of the row; it answers and leaves what the ruling says, on any row.
+use model::Answer;
+use model::Change;
+use objects::set_forced;
+use objects::set_initial;
+use objects::set_process_forced;
+use objects::set_type;
+use roles::change_right;
+use roles::change_set;
+use roles::set_default_type;
+use roles::set_role_admin;
+use roles::set_user_role;
+ghost use mathlib.Core.Path.{_≡_};
+ghost use Rattle.model.specs.Outcome.{outcome, carryOut};
+ghost use Rattle.model.specs.Administration.{rulingOn};
+
+mod objects;
+mod roles;
+
+// Any of them.
+pub fn administer(t: &mut [u32], caller: u32, change: Change) -> Answer
+    ensures { λ r. ⌜ outcome r (now (t .exit)) ≡ carryOut (now (t .entry)) (rulingOn (now (t .entry)) caller change) ⌝ }
+{
+    match change {
+        Change::AddRole { set, role, member } => change_set(t, caller, true, set, role, member),
+        Change::RemoveRole { set, role, member } => change_set(t, caller, false, set, role, member),
+        Change::SetUserRole { user, role } => set_user_role(t, caller, user, role),
+        Change::SetInitial { file, value } => set_initial(t, caller, file, value),
+        Change::SetForced { file, value } => set_forced(t, caller, file, value),
+        Change::SetProcessForced { process, value } => set_process_forced(
+            t,
+            caller,
+            process,
+            value,
+        ),
+        Change::SetDefaultType { which, role, value } => set_default_type(
+            t,
+            caller,
+            which,
+            role,
+            value,
+        ),
+        Change::SetRoleAdmin { role, mark } => set_role_admin(t, caller, role, mark),
+        Change::SetType {
+            group,
+            object,
+            value,
+        } => set_type(t, caller, group, object, value),
+        Change::AddRight {
+            group,
+            role,
+            rctype,
+            right,
+        } => change_right(t, caller, true, group, role, rctype, right),
+        Change::RemoveRight {
+            group,
+            role,
+            rctype,
+            right,
+        } => change_right(t, caller, false, group, role, rctype, right),
+    }
+}

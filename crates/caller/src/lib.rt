@@ -1,4 +1,6 @@
 // The process that makes a call: whether it may ask at all, its own role, and what that role allows.
+use crate::ranges::ranged;
+use model::Call;
 use model::Role;
 use model::numbers::PROCESS;
 use model::numbers::PROCESSES;
@@ -9,15 +11,18 @@ use tables::records::has_right;
 use tables::records::process_at;
 use tables::records::role_at;
 ghost use mathlib.Core.Path.{_≡_};
-ghost use Rattle.model.specs.Calls.{callerNo, ownRole, may as mayOf};
+ghost use Rattle.model.specs.Calls.{ownRole, may as mayOf, maySelf};
 ghost use Rattle.model.specs.Administration.{passes as passesOf, mayAssign, mayAdmin};
+ghost use Rattle.model.specs.Step.{callerNo};
 
-// Numbers 2 and 3: the call's numbers are in range, and the caller is live.
-pub fn caller_no(t: &[u32], caller: u32, ranged: bool) -> u32
-    ensures { λ r. ⌜ r ≡ callerNo (now (t .entry)) caller ranged ⌝ }
+mod ranges;
+
+// Numbers 2 and 3: every number of the call is in its range, and the caller is live.
+pub fn caller_no(t: &[u32], caller: u32, call: Call) -> u32
+    ensures { λ r. ⌜ r ≡ callerNo (now (t .entry)) caller call ⌝ }
 {
     first(
-        unless(2, (caller < PROCESSES) & ranged),
+        unless(2, (caller < PROCESSES) & ranged(call)),
         unless(3, occupied(t, PROCESS, caller)),
     )
 }
@@ -34,6 +39,14 @@ pub fn may(t: &[u32], caller: u32, group: u32, rctype: u32, right: u32) -> bool
     ensures { λ r. ⌜ r ≡ mayOf (now (t .entry)) caller group rctype right ⌝ }
 {
     has_right(t, group, process_at(t, caller).role, rctype, right)
+}
+
+// Rule 16 for the caller itself: own role has the right to own process type.
+pub fn may_self(t: &[u32], caller: u32, right: u32) -> bool
+    ensures { λ r. ⌜ r ≡ maySelf (now (t .entry)) caller right ⌝ }
+{
+    let rctype = process_at(t, caller).rctype;
+    may(t, caller, PROCESS, rctype, right)
 }
 
 // H4: Role Admin passes every test of rules 23 to 34.

@@ -1,29 +1,41 @@
 -- The parts of C2 make up the rule again: a walk over groups within one over types is one over types.
-use Prim.Native.Nat.{ℕ, _<_}
+use Prim.Native.Nat.{ℕ, _+_, _<_}
 use mathlib.Core.Path.{_≡_, refl, sym, _∙_}
 use mathlib.Core.Bool.{Bool, true, false, not, _&&_, _||_}
 use mathlib.Core.List.{List}
 use native.Mathlib.Omega.{arith}
-use Rattle.sets.specs.Below.{allBelow}
+use Rattle.sets.specs.Below.{allBelow, someBelow}
 use Rattle.sets.specs.Sets.{has}
 use Rattle.sets.proofs.Below.{all-miss, all-same, all-swap, all-not}
-use Rattle.model.specs.Numbers.{_unless_, GROUPS, TYPES, ASSIGN}
+use Rattle.model.specs.Numbers.{_unless_, GROUPS, FILESYSTEM, PROCESS, IPC, TYPES, ASSIGN}
+use Rattle.model.specs.Words.{_!_, block}
+use Rattle.model.specs.Layout.{rightsAddr}
 use Rattle.model.specs.Records.{roleAt, hasRight}
-use Rattle.model.specs.Claims.{S, assignsNothing, C2}
-use Rattle.claimroles.specs.Roles.{powerless, assigns, keeps}
+use Rattle.model.specs.Claims.{S, assignsNothing, powerless, C2}
+use Rattle.model.proofs.Words.{block-at}
+use Rattle.claimroles.specs.Roles.{unempowered, assigns, assignsTo, keeps}
 
-pub assigns-none : (t : List ℕ) (r : ℕ) → assignsNothing t r ≡ allBelow TYPES (λ k. not (assigns t r k))
-unfolding assignsNothing assigns
+pub assigns-none : (t : List ℕ) (r : ℕ) → assignsNothing t r ≡ allBelow TYPES (λ k. not (assignsTo t r k))
+unfolding assignsNothing assignsTo
 assigns-none t r =
     all-swap (λ g k. not (hasRight t g r k ASSIGN)) GROUPS TYPES
-    ∙ all-same (λ k. allBelow GROUPS (λ g. not (hasRight t g r k ASSIGN))) (λ k. not (assigns t r k)) TYPES
+    ∙ all-same (λ k. allBelow GROUPS (λ g. not (hasRight t g r k ASSIGN))) (λ k. not (assignsTo t r k)) TYPES
     (λ k l. all-not (λ g. hasRight t g r k ASSIGN) GROUPS)
 
-pub assigned : (t : List ℕ) (r k : ℕ) → k < 32 → assigns t r k ≡ true → assignsNothing t r ≡ false
-assigned t r k l e = assigns-none t r ∙ all-miss (λ k. not (assigns t r k)) 32 k l (rw e)
+-- the rows of a role's rights have the sets that the rule asks for
+pub assigns-rows : (t : List ℕ) (r k : ℕ) (f p i : List ℕ) → k < 32 → f ≡ block t (rightsAddr FILESYSTEM r 0) TYPES → p ≡ block t (rightsAddr PROCESS r 0) TYPES → i ≡ block t (rightsAddr IPC r 0) TYPES → assigns (f ! k) (p ! k) (i ! k) ≡ assignsTo t r k
+unfolding assignsTo someBelow hasRight
+assigns-rows t r k f p i l ef ep ei =
+    rw (at FILESYSTEM f ef, at PROCESS p ep, at IPC i ei)
+  where
+    at : (g : ℕ) (row : List ℕ) → row ≡ block t (rightsAddr g r 0) TYPES → row ! k ≡ t ! rightsAddr g r k
+    at g row e = let a : rightsAddr g r 0 + k ≡ rightsAddr g r k = omega arith in rw (e, block-at t (rightsAddr g r 0) TYPES k l, a)
 
-pub keeps-is : (t w : List ℕ) (r : ℕ) → keeps t w r ≡ (not (has (S w) r) || (powerless (roleAt t r) && assignsNothing t r))
-unfolding keeps
+pub assigned : (t : List ℕ) (r k : ℕ) → k < 32 → assignsTo t r k ≡ true → assignsNothing t r ≡ false
+assigned t r k l e = assigns-none t r ∙ all-miss (λ k. not (assignsTo t r k)) 32 k l (rw e)
+
+pub keeps-is : (t w : List ℕ) (r : ℕ) → keeps t w r ≡ (not (has (S w) r) || (unempowered (roleAt t r) && assignsNothing t r))
+unfolding keeps powerless
 keeps-is t w r = refl
 
 pub c2-keeps : (t w : List ℕ) → C2 t w ≡ allBelow 32 (keeps t w)

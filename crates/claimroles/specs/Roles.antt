@@ -1,4 +1,5 @@
--- Rules C1 to C5 cut into the parts that the checker tests one by one; proofs/Roles.antt puts them together again.
+-- Not to be believed: rules C1 to C5 cut into the parts that the checker tests one by one. proofs/Roles.antt puts them together again, and the
+-- checker's contract speaks of the whole rules.
 -- Assumes nothing.
 use Prim.Native.Nat.{ℕ}
 use mathlib.Core.Bool.{Bool, cond, not, _&&_, _||_}
@@ -7,33 +8,25 @@ use lib.Dec.{eqb}
 use Rattle.sets.specs.Below.{someBelow}
 use Rattle.sets.specs.Sets.{has, inside}
 use Rattle.model.specs.declared.Role.{Role}
-use Rattle.model.specs.Numbers.{_unless_, _▹_, GROUPS, FILESYSTEM, WRITE, CREATE, DELETE, ASSIGN}
+use Rattle.model.specs.Numbers.{_unless_, _▹_, GROUPS, ASSIGN}
 use Rattle.model.specs.Records.{roleAt, hasRight}
-use Rattle.model.specs.Claims.{typeIn, S, Q, plainIn, assignsNothing, C1, C2, C3, C4, C5}
+use Rattle.model.specs.Claims.{typeIn, S, Q, powerless, spares, staysIn, C1, C2, C3, C4, C5}
 
--- C2 of a role by itself: it is not Role Admin and has no admin or assign role
-abbrev pub powerless : Role → Bool
-powerless r = not (r .mark) && eqb (r .admin .bits) 0 && eqb (r .assign .bits) 0
+-- C2 of a role's record: it is not Role Admin and has no admin or assign role
+abbrev pub unempowered : Role → Bool
+unempowered r = not (r .mark) && eqb (r .admin .bits) 0 && eqb (r .assign .bits) 0
 
--- C2 of a role and a type: in some group the role has ASSIGN to it
-unfoldable pub assigns : List ℕ → ℕ → ℕ → Bool
-assigns t r k = someBelow GROUPS (λ g. hasRight t g r k ASSIGN)
+-- C2 of a role and a type, where the sets are its rights to it in the three groups: it has ASSIGN in one of them
+abbrev pub assigns : ℕ → ℕ → ℕ → Bool
+assigns files processes ipcs = has files ASSIGN || has processes ASSIGN || has ipcs ASSIGN
 
--- C2 of the number r: it is not in S, or a role that has nothing of all that
+-- the same of role r and type k in the tables
+unfoldable pub assignsTo : List ℕ → ℕ → ℕ → Bool
+assignsTo t r k = someBelow GROUPS (λ g. hasRight t g r k ASSIGN)
+
+-- C2 of the number r: it is not in S, or a powerless role
 unfoldable pub keeps : List ℕ → List ℕ → ℕ → Bool
-keeps t w r = not (has (S w) r) || (powerless (roleAt t r) && assignsNothing t r)
-
--- C3 of a role: it has no right that changes an object of type k, and creates none
-unfoldable pub spares : List ℕ → ℕ → ℕ → Bool
-spares t k r =
-    not (hasRight t FILESYSTEM r k WRITE)
-    && not (hasRight t FILESYSTEM r k CREATE)
-    && not (hasRight t FILESYSTEM r k DELETE)
-    && not (eqb (roleAt t r .filecreate) k)
-
--- C5 of a role
-abbrev pub staysIn : ℕ → Role → Bool
-staysIn q r = plainIn q (r .processcreate) && plainIn q (r .execute) && plainIn q (r .chown)
+keeps t w r = not (has (S w) r) || powerless t r
 
 -- what rule n, 3 to 5, asks of role r
 unfoldable pub asks : List ℕ → List ℕ → ℕ → ℕ → Bool

@@ -1,10 +1,7 @@
 // Rules C1 to C5 of a claim: what the roles of S are, and what they may do.
-use crate::row::PROCESS_AT;
-use crate::row::Q_AT;
-use crate::row::S_AT;
-use crate::row::TYPE_AT;
-use crate::row::set_in;
 use model::Role;
+use model::layout::CLAIM_PROCESS;
+use model::layout::CLAIM_TYPE;
 use model::numbers::ASSIGN;
 use model::numbers::CREATE;
 use model::numbers::DELETE;
@@ -12,21 +9,21 @@ use model::numbers::FILESYSTEM;
 use model::numbers::IPC;
 use model::numbers::PROCESS;
 use model::numbers::ROLES;
-use model::numbers::TYPES;
 use model::numbers::WRITE;
 use rules::refusal::first;
 use rules::refusal::unless;
 use sets::RoleSet;
+use tables::claim::process_types_in;
+use tables::claim::roles_in;
 use tables::records::has_right;
 use tables::records::process_at;
+use tables::records::rights_row;
 use tables::records::role_at;
 use tables::words::word;
 ghost use mathlib.Core.Path.{_≡_};
 ghost use Rattle.model.specs.Numbers.{_unless_};
-ghost use Rattle.model.specs.Claims.{everyRole, plainIn, C1, C2};
-ghost use Rattle.claimroles.specs.Roles.{powerless as powerlessOf, assigns as assignsOf, spares as sparesOf, staysIn, asks as asksOf, byRoles};
-
-pub mod row;
+ghost use Rattle.model.specs.Claims.{everyRole, plainIn, C1, C2, spares as sparesOf, staysIn};
+ghost use Rattle.claimroles.specs.Roles.{unempowered as unempoweredOf, assigns as assignsOf, asks as asksOf, byRoles};
 
 // A plain value is in the set; a special one need not be.
 pub fn plain_in(set: RoleSet, v: u32) -> bool
@@ -36,45 +33,49 @@ pub fn plain_in(set: RoleSet, v: u32) -> bool
 }
 
 // C1: the process's role is in S and its type in Q.
-fn rule_1(t: &[u32], w: &[u32]) -> bool
+fn c1(t: &[u32], w: &[u32]) -> bool
     ensures { λ r. ⌜ r ≡ C1 (now (t .entry)) (now (w .entry)) ⌝ }
 {
-    let me = process_at(t, word(w, PROCESS_AT));
-    set_in(w, S_AT).has(me.role) & set_in(w, Q_AT).has(me.rctype)
+    let me = process_at(t, word(w, CLAIM_PROCESS));
+    roles_in(w).has(me.role) & process_types_in(w).has(me.rctype)
 }
 
 // C2 of a role by itself: it is not Role Admin and has no admin or assign role.
-fn powerless(role: Role) -> bool
-    ensures { λ r. ⌜ r ≡ powerlessOf role ⌝ }
+fn unempowered(role: Role) -> bool
+    ensures { λ r. ⌜ r ≡ unempoweredOf role ⌝ }
 {
     !role.mark & (role.admin.bits == 0) & (role.assign.bits == 0)
 }
 
-// C2 of a role and a type: in some group the role has ASSIGN to it.
-fn assigns(t: &[u32], role: u32, rctype: u32) -> bool
-    ensures { λ r. ⌜ r ≡ assignsOf (now (t .entry)) role rctype ⌝ }
+// C2 of a role and a type: the role has ASSIGN to it in some group, where the sets are its rights in each.
+fn assigns(files: u32, processes: u32, ipcs: u32) -> bool
+    ensures { λ r. ⌜ r ≡ assignsOf files processes ipcs ⌝ }
 {
-    has_right(t, FILESYSTEM, role, rctype, ASSIGN)
-        | has_right(t, PROCESS, role, rctype, ASSIGN)
-        | has_right(t, IPC, role, rctype, ASSIGN)
+    let files = RoleSet { bits: files };
+    let processes = RoleSet { bits: processes };
+    let ipcs = RoleSet { bits: ipcs };
+    files.has(ASSIGN) | processes.has(ASSIGN) | ipcs.has(ASSIGN)
 }
 
 // C2: no role in S is Role Admin, has an admin or assign role, or has ASSIGN to any type of any group.
-fn rule_2(t: &[u32], w: &[u32]) -> u32
+fn c2(t: &[u32], w: &[u32]) -> u32
     ensures { λ r. ⌜ r ≡ 2 unless C2 (now (t .entry)) (now (w .entry)) ⌝ }
 {
-    let s = set_in(w, S_AT);
+    let s = roles_in(w);
     let mut broken: u32 = 0;
     let mut r: u32 = 0;
     'walk: while r < ROLES {
         let mine = s.has(r);
-        if mine & !powerless(role_at(t, r)) {
+        if mine & !unempowered(role_at(t, r)) {
             broken = 2;
             break 'walk;
         }
-        let mut k: u32 = 0;
-        while mine & (k < TYPES) {
-            if assigns(t, r, k) {
+        let files = rights_row(t, FILESYSTEM, r);
+        let processes = rights_row(t, PROCESS, r);
+        let ipcs = rights_row(t, IPC, r);
+        let mut k = 0;
+        while mine & (k < 32) {
+            if assigns(files[k], processes[k], ipcs[k]) {
                 broken = 2;
                 break 'walk;
             }
@@ -107,11 +108,11 @@ fn asks(t: &[u32], w: &[u32], rule: u32, role: u32) -> bool
     ensures { λ r. ⌜ r ≡ asksOf (now (t .entry)) (now (w .entry)) rule role ⌝ }
 {
     if rule == 3 {
-        spares(t, word(w, TYPE_AT), role)
+        spares(t, word(w, CLAIM_TYPE), role)
     } else if rule == 4 {
-        role_at(t, role).compatible.inside(set_in(w, S_AT))
+        role_at(t, role).compatible.inside(roles_in(w))
     } else {
-        stays_in(set_in(w, Q_AT), role_at(t, role))
+        stays_in(process_types_in(w), role_at(t, role))
     }
 }
 
@@ -119,7 +120,7 @@ fn asks(t: &[u32], w: &[u32], rule: u32, role: u32) -> bool
 fn every_role(t: &[u32], w: &[u32], rule: u32) -> u32
     ensures { λ r. ⌜ r ≡ rule unless everyRole (now (w .entry)) (asksOf (now (t .entry)) (now (w .entry)) rule) ⌝ }
 {
-    let s = set_in(w, S_AT);
+    let s = roles_in(w);
     let mut ok = true;
     let mut r: u32 = 0;
     while r < ROLES {
@@ -137,5 +138,5 @@ pub fn by_roles(t: &[u32], w: &[u32]) -> u32
         every_role(t, w, 3),
         first(every_role(t, w, 4), every_role(t, w, 5)),
     );
-    first(unless(1, rule_1(t, w)), first(rule_2(t, w), after))
+    first(unless(1, c1(t, w)), first(c2(t, w), after))
 }

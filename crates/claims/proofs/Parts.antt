@@ -11,15 +11,15 @@ use Rattle.sets.specs.Below.{allBelow, someBelow}
 use Rattle.sets.specs.Sets.{meets}
 use Rattle.sets.proofs.Below.{all-same, all-next, some-next}
 use Rattle.model.specs.Numbers.{_unless_, _▹_, FILESYSTEM, PROCESS, FILES, INHERIT-USER, UP-MIXED, EXECUTE, CHANGE-OWNER}
-use Rattle.model.specs.Records.{rowLength}
-use Rattle.model.specs.Effective.{effInitial, effForced}
-use Rattle.model.specs.Claims.{S, Q, T, plainIn, startable, carried, C1, C2, C3, C4, C5, holds, C6, starts, C9, broken, claimLength, claimNo, verdict}
-use Rattle.model.proofs.Granted.{granted}
+use Rattle.model.specs.Layout.{FILE-TYPE, INITIAL, FORCED, rowLength, claimLength}
+use Rattle.model.specs.Effective.{valueAt}
+use Rattle.model.specs.Claims.{S, Q, T, plainIn, startable, carried, C1, C2, C3, C4, C5, holds, C6, starts, C9, broken, claimNo, verdict}
+use Rattle.model.proofs.Decided.{tested}
 use Rattle.model.proofs.Formed.{facts}
 use Rattle.claimsets.specs.Family.{EVERY-ROLE, reach, born, rowOf}
 use Rattle.claimsets.proofs.Family.{reach-meets, births-closed}
 use Rattle.claimroles.specs.Roles.{byRoles}
-use Rattle.claims.specs.Parts.{holdsBy, six, carriedBy, everyUser, nine, byFiles}
+use Rattle.claims.specs.Parts.{holdsBy, C6By, carriedBy, everyUser, C9By, byFiles}
 
 -- ---- refusal numbers
 
@@ -48,7 +48,7 @@ verdict-kept n r e h = rw (e, h)
 -- what is not refused has both its lengths, and is handed on whole
 pub claim-lengths : (t w : List ℕ) → claimNo t w ≡ 0 → (length t ≡ rowLength) × (length w ≡ claimLength)
 unfolding claimNo
-claim-lengths t w e = let h = simp granted at e in (facts t (h .0 .0) .sized, h .0 .1)
+claim-lengths t w e = let h = simp tested at e in (facts t (h .0 .0) .sized, h .0 .1)
 
 pub broken-whole : (t w : List ℕ) → claimNo t w ≡ 0 → broken (take rowLength t) (take claimLength w) ≡ broken t w
 broken-whole t w e =
@@ -70,27 +70,27 @@ module _ (t w : List ℕ) where
 
   -- ---- C6 and C9 go by what is worked out of the roles
 
-  pub six-is : six t w EVERY-ROLE ≡ C6 t w
-  unfolding six C6 holds holdsBy
-  six-is = all-same (holdsBy (rowOf (born t EVERY-ROLE)) t w) (holds t w) FILES (λ o l. rw (births-closed t w o))
+  pub c6-is : C6By t w EVERY-ROLE ≡ C6 t w
+  unfolding C6By C6 holds holdsBy
+  c6-is = all-same (λ o. holdsBy (rowOf (born t EVERY-ROLE)) (valueAt t FILE-TYPE o) t w o) (holds t w) FILES (λ o l. rw (births-closed t w o))
 
-  pub nine-is : nine t w (S w) (carried t w INHERIT-USER || carried t w UP-MIXED) ≡ C9 t w
-  unfolding nine C9 everyUser
-  nine-is = rw (reach-meets t PROCESS CHANGE-OWNER (omega arith) w (Q w))
+  pub c9-is : C9By t w (S w) (carried t w INHERIT-USER || carried t w UP-MIXED) ≡ C9 t w
+  unfolding C9By C9 everyUser
+  c9-is = rw (reach-meets t PROCESS CHANGE-OWNER (omega arith) w (Q w))
 
   -- C9 where what it asks last is tested first
-  pub nine-early : (s : ℕ) (follows : Bool) → (not follows || everyUser t s) ≡ true → true ≡ nine t w s follows
-  unfolding nine
-  nine-early s follows e = go (meets (Q w) (reach t s PROCESS CHANGE-OWNER)) follows (everyUser t s) e
+  pub c9-early : (s : ℕ) (follows : Bool) → (not follows || everyUser t s) ≡ true → true ≡ C9By t w s follows
+  unfolding C9By
+  c9-early s follows e = go (meets (Q w) (reach t s PROCESS CHANGE-OWNER)) follows (everyUser t s) e
     where
       go : (owners follows all : Bool) → (not follows || all) ≡ true → true ≡ (not (owners && follows) || all)
       go false follows all e = refl
       go true false all e = refl
       go true true all e = sym e
 
-  pub nine-late : (s : ℕ) (follows : Bool) → (not follows || everyUser t s) ≡ false → not (meets (Q w) (reach t s PROCESS CHANGE-OWNER)) ≡ nine t w s follows
-  unfolding nine
-  nine-late s follows e = go (meets (Q w) (reach t s PROCESS CHANGE-OWNER)) follows (everyUser t s) e
+  pub c9-late : (s : ℕ) (follows : Bool) → (not follows || everyUser t s) ≡ false → not (meets (Q w) (reach t s PROCESS CHANGE-OWNER)) ≡ C9By t w s follows
+  unfolding C9By
+  c9-late s follows e = go (meets (Q w) (reach t s PROCESS CHANGE-OWNER)) follows (everyUser t s) e
     where
       go : (owners follows all : Bool) → (not follows || all) ≡ false → not owners ≡ (not (owners && follows) || all)
       go false follows all e = refl
@@ -106,7 +106,7 @@ module _ (t w : List ℕ) where
   -- one place more: where it is startable its values count, and otherwise nothing does
   module _ (o : ℕ) where
     pub starts-more : (p : Bool) → startable t w o ≡ true
-        → (p && allBelow (o + 1) (starts t w)) ≡ (p && allBelow o (starts t w) && plainIn (S w) (effInitial t o .value) && plainIn (S w) (effForced t o .value))
+        → (p && allBelow (o + 1) (starts t w)) ≡ (p && allBelow o (starts t w) && plainIn (S w) (valueAt t INITIAL o) && plainIn (S w) (valueAt t FORCED o))
     unfolding starts
     starts-more p e = rw (all-next, e) (all-assoc p (allBelow o (starts t w)) _ _)
 
@@ -115,7 +115,7 @@ module _ (t w : List ℕ) where
     starts-same p e = rw (all-next, e, and-true)
 
     pub carried-more : (v : ℕ) (p : Bool) → startable t w o ≡ true
-        → (p || someBelow (o + 1) (carriedBy t w v)) ≡ (p || someBelow o (carriedBy t w v) || eqb (effForced t o .value) v)
+        → (p || someBelow (o + 1) (carriedBy t w v)) ≡ (p || someBelow o (carriedBy t w v) || eqb (valueAt t FORCED o) v)
     unfolding carriedBy
     carried-more v p e = rw (some-next, e) (sym (or-assoc p (someBelow o (carriedBy t w v)) _))
 

@@ -1,17 +1,15 @@
 // Rules C6 to C9: what stands at the file places, which of it the roles of S can start, and which values that carries.
 use claimroles::plain_in;
-use claimroles::row::PROCESS_AT;
-use claimroles::row::Q_AT;
-use claimroles::row::S_AT;
-use claimroles::row::set_in;
-use claimroles::row::types_in;
 use claimsets::EVERY_ROLE;
 use claimsets::births;
 use claimsets::closed;
 use claimsets::reach;
-use effective::values::forced_value;
-use effective::values::initial_value;
-use effective::values::type_value;
+use effective::values::FORCED_VALUE;
+use effective::values::INITIAL_VALUE;
+use effective::values::VALUES;
+use effective::values::values;
+use model::layout::CLAIM_PROCESS;
+use model::layout::KIND;
 use model::numbers::CHANGE_OWNER;
 use model::numbers::DIR;
 use model::numbers::EXECUTE;
@@ -25,6 +23,9 @@ use rules::refusal::first;
 use rules::refusal::unless;
 use sets::RoleSet;
 use tables::cases::forced_word;
+use tables::claim::process_types_in;
+use tables::claim::roles_in;
+use tables::claim::types_in;
 use tables::places::occupied;
 use tables::records::file_word;
 use tables::records::process_at;
@@ -32,10 +33,8 @@ use tables::records::user_role;
 use tables::words::word;
 ghost use mathlib.Core.Path.{_≡_};
 ghost use Rattle.model.specs.Claims.{ownForced};
-ghost use Rattle.claims.specs.Parts.{holdsBy, six, carries, eight, everyUser, nine, byFiles};
-
-// Which word of a file is its kind.
-const KIND: u32 = 0;
+ghost use Rattle.effective.specs.Known.{HoldsAll};
+ghost use Rattle.claims.specs.Parts.{holdsBy, C6By, carries, C8By, everyUser, C9By, byFiles};
 
 // What a walk over the files finds: whether all plain values are in S (C7), and which special values are carried.
 pub struct Carried {
@@ -44,15 +43,15 @@ pub struct Carried {
     pub mixed: bool,
 }
 
-// C6 of a place: T of a free place is empty; T(o) holds o's effective type; a DIR's holds what is created in it.
-fn holds(row: [u32; 32], t: &[u32], w: &[u32], o: u32) -> bool
-    ensures { λ r. ⌜ r ≡ holdsBy row (now (t .entry)) (now (w .entry)) o ⌝ }
+// C6 of a place: T of a free place is empty; T(o) holds o's effective type, which is handed in; a DIR's holds what is created in it.
+fn holds(row: [u32; 32], rctype: u32, t: &[u32], w: &[u32], o: u32) -> bool
+    ensures { λ r. ⌜ r ≡ holdsBy row rctype (now (t .entry)) (now (w .entry)) o ⌝ }
 {
     let types = types_in(w, o);
     if !occupied(t, FILESYSTEM, o) {
         return types.bits == 0;
     }
-    let own = types.has(type_value(t, o));
+    let own = types.has(rctype);
     if file_word(t, o, KIND) != DIR {
         return own;
     }
@@ -60,13 +59,15 @@ fn holds(row: [u32; 32], t: &[u32], w: &[u32], o: u32) -> bool
 }
 
 // C6, where those that create are the roles of a set.
-fn rule_6(t: &[u32], w: &[u32], roles: RoleSet) -> bool
-    ensures { λ r. ⌜ r ≡ six (now (t .entry)) (now (w .entry)) (roles .bits) ⌝ }
+fn c6(known: &[u32], t: &[u32], w: &[u32], roles: RoleSet) -> bool
+    requires { ⌜ HoldsAll (now known) (now t) ⌝ }
+    ensures { λ r. ⌜ r ≡ C6By (now (t .entry)) (now (w .entry)) (roles .bits) ⌝ }
 {
     let row = births(t, roles);
     let mut o: u32 = 0;
     while o < FILES {
-        if !holds(row, t, w, o) {
+        let rctype = word(known, VALUES * (o as usize));
+        if !holds(row, rctype, t, w, o) {
             return false;
         }
         o += 1;
@@ -78,15 +79,16 @@ fn rule_6(t: &[u32], w: &[u32], roles: RoleSet) -> bool
 fn own_forced(t: &[u32], w: &[u32]) -> u32
     ensures { λ r. ⌜ r ≡ ownForced (now (t .entry)) (now (w .entry)) ⌝ }
 {
-    let forced = process_at(t, word(w, PROCESS_AT)).forced;
+    let forced = process_at(t, word(w, CLAIM_PROCESS)).forced;
     forced_word(forced)
 }
 
 // C7, and what C8 and C9 ask: a value is carried by the process itself or by an object that a role in S can start.
-fn all_carried(t: &[u32], w: &[u32]) -> Carried
+fn all_carried(known: &[u32], t: &[u32], w: &[u32]) -> Carried
+    requires { ⌜ HoldsAll (now known) (now t) ⌝ }
     ensures { λ r. ⌜ r ≡ carries (now (t .entry)) (now (w .entry)) ⌝ }
 {
-    let s = set_in(w, S_AT);
+    let s = roles_in(w);
     let started = reach(t, s, FILESYSTEM, EXECUTE);
     let own = own_forced(t, w);
     let mut plain = plain_in(s, own);
@@ -95,8 +97,9 @@ fn all_carried(t: &[u32], w: &[u32]) -> Carried
     let mut o: u32 = 0;
     while o < FILES {
         if types_in(w, o).meets(started) {
-            let forced = forced_value(t, o);
-            plain = plain & plain_in(s, initial_value(t, o)) & plain_in(s, forced);
+            let initial = word(known, VALUES * (o as usize) + INITIAL_VALUE);
+            let forced = word(known, VALUES * (o as usize) + FORCED_VALUE);
+            plain = plain & plain_in(s, initial) & plain_in(s, forced);
             user = user | (forced == INHERIT_USER);
             mixed = mixed | (forced == UP_MIXED);
         }
@@ -106,10 +109,10 @@ fn all_carried(t: &[u32], w: &[u32]) -> Carried
 }
 
 // C8: if inherit user is carried, the default role of the process's owner is in S.
-fn rule_8(t: &[u32], w: &[u32], s: RoleSet, user: bool) -> bool
-    ensures { λ r. ⌜ r ≡ eight (now (t .entry)) (now (w .entry)) (s .bits) user ⌝ }
+fn c8(t: &[u32], w: &[u32], s: RoleSet, user: bool) -> bool
+    ensures { λ r. ⌜ r ≡ C8By (now (t .entry)) (now (w .entry)) (s .bits) user ⌝ }
 {
-    let me = process_at(t, word(w, PROCESS_AT));
+    let me = process_at(t, word(w, CLAIM_PROCESS));
     !user | s.has(user_role(t, me.owner))
 }
 
@@ -127,26 +130,28 @@ fn every_user(t: &[u32], set: RoleSet) -> bool
 }
 
 // C9: if a role in S has CHANGE_OWNER to a type in Q, and a value that follows the owner is carried, every user's default role is in S.
-fn rule_9(t: &[u32], w: &[u32], s: RoleSet, follows: bool) -> bool
-    ensures { λ r. ⌜ r ≡ nine (now (t .entry)) (now (w .entry)) (s .bits) follows ⌝ }
+fn c9(t: &[u32], w: &[u32], s: RoleSet, follows: bool) -> bool
+    ensures { λ r. ⌜ r ≡ C9By (now (t .entry)) (now (w .entry)) (s .bits) follows ⌝ }
 {
     if !follows | every_user(t, s) {
         return true;
     }
-    !set_in(w, Q_AT).meets(reach(t, s, PROCESS, CHANGE_OWNER))
+    !process_types_in(w).meets(reach(t, s, PROCESS, CHANGE_OWNER))
 }
 
-// The first of the rules 6 to 9 that is broken. An outsider may create too, so C6 counts all 32 roles; one walk over the files serves the last three.
+// The first of the rules 6 to 9 that is broken. An outsider may create too, so C6 counts all 32 roles; one walk over the files serves the last
+// three. The effective values are worked out once for both walks.
 pub fn by_files(t: &[u32], w: &[u32]) -> u32
     ensures { λ r. ⌜ r ≡ byFiles (now (t .entry)) (now (w .entry)) ⌝ }
 {
-    let s = set_in(w, S_AT);
-    if !rule_6(t, w, RoleSet { bits: EVERY_ROLE }) {
+    let s = roles_in(w);
+    let known = values(t);
+    if !c6(&known, t, w, RoleSet { bits: EVERY_ROLE }) {
         return 6;
     }
-    let c = all_carried(t, w);
-    let seven = unless(7, c.plain);
-    let eight = unless(8, rule_8(t, w, s, c.user));
-    let nine = unless(9, rule_9(t, w, s, c.user | c.mixed));
+    let found = all_carried(&known, t, w);
+    let seven = unless(7, found.plain);
+    let eight = unless(8, c8(t, w, s, found.user));
+    let nine = unless(9, c9(t, w, s, found.user | found.mixed));
     first(seven, first(eight, nine))
 }

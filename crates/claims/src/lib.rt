@@ -1,14 +1,14 @@
 // The claim checker ("Claims"): the one verdict on a claim, with the first rule broken.
 use claimroles::by_roles;
-use claimroles::row::CLAIM_LENGTH;
-use claimroles::row::PROCESS_AT;
-use claimroles::row::TYPE_AT;
 use files::by_files;
 use formed::well_formed;
 use model::Verdict;
+use model::layout::CLAIM_LENGTH;
+use model::layout::CLAIM_PROCESS;
+use model::layout::CLAIM_TYPE;
+use model::layout::ROW_LENGTH;
 use model::numbers::PROCESS;
 use model::numbers::PROCESSES;
-use model::numbers::ROW_LENGTH;
 use model::numbers::TYPES;
 use rules::refusal::first;
 use rules::refusal::unless;
@@ -37,17 +37,17 @@ fn broken(t: &[u32], w: &[u32]) -> u32
 fn claim_no(t: &[u32], w: &[u32]) -> u32
     ensures { λ r. ⌜ r ≡ claimNo (now (t .entry)) (now (w .entry)) ⌝ }
 {
-    let process = word(w, PROCESS_AT);
+    let process = word(w, CLAIM_PROCESS);
     let formed = unless(1, well_formed(t) & (w.len() == CLAIM_LENGTH));
-    let ranged = unless(2, (process < PROCESSES) & (word(w, TYPE_AT) < TYPES));
+    let ranged = unless(2, (process < PROCESSES) & (word(w, CLAIM_TYPE) < TYPES));
     first(
         formed,
         first(ranged, unless(3, occupied(t, PROCESS, process))),
     )
 }
 
-// The one verdict, for any tables and any claim. Once both lengths are known, the rows are handed on at these lengths,
-// so that the compiler knows them too and no read needs a test of its own.
+// The one verdict, for any tables and any claim. Once both lengths are known, the rows are handed on at these lengths, so that the compiler
+// knows them too.
 pub fn check(t: &[u32], w: &[u32]) -> Verdict
     ensures { λ r. ⌜ r ≡ checkOf (now (t .entry)) (now (w .entry)) ⌝ }
 {

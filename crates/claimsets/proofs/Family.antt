@@ -17,9 +17,10 @@ use Rattle.sets.proofs.Below.{by-bool, same-truth, lt-or-le, both, left, right,
 use Rattle.sets.proofs.Sets.{empty-has, has-bound, added-same, added-other, inside-at, inside-of, meets-at, meets-of, has-collect, has-union, union-none}
 use Rattle.model.specs.Numbers.{FILESYSTEM, CREATE}
 use Rattle.model.specs.Words.{_!_}
-use Rattle.model.specs.Records.{rightsAddr, roleAt, hasRight}
+use Rattle.model.specs.Layout.{rightsAddr}
+use Rattle.model.specs.Records.{roleAt, hasRight}
 use Rattle.model.specs.Claims.{S, T, plainIn, toSome, someRoleTo, createsInside}
-use Rattle.claimsets.specs.Family.{EVERY-ROLE, rightsTo, reach, makes, born, rowFrom, rowOf, closed}
+use Rattle.claimsets.specs.Family.{EVERY-ROLE, rightsTo, reach, birth, bears, born, rowFrom, rowOf, closed}
 
 -- ---- a row of 32 words
 
@@ -85,9 +86,9 @@ unfolding allBelow has
 every = all-at (has EVERY-ROLE) 32 refl
 
 module _ (t : List ℕ) where
-  has-makes : (k r v : ℕ) → v < 32 → has (makes t k r) v ≡ (hasRight t FILESYSTEM r k CREATE && eqb (roleAt t r .filecreate) v)
-  unfolding makes
-  has-makes k r v l =
+  has-bears : (k r v : ℕ) → v < 32 → has (bears t k r) v ≡ (hasRight t FILESYSTEM r k CREATE && eqb (roleAt t r .filecreate) v)
+  unfolding birth
+  has-bears k r v l =
       by-bool (λ b. has (cond b (added 0 (roleAt t r .filecreate)) 0) v ≡ (b && eqb (roleAt t r .filecreate) v)) (hasRight t FILESYSTEM r k CREATE)
       (λ e.
       by-bool (λ b. has (added 0 (roleAt t r .filecreate)) v ≡ b) (eqb (roleAt t r .filecreate) v)
@@ -98,16 +99,16 @@ module _ (t : List ℕ) where
   has-born : (k v : ℕ) → v < 32 → (r : ℕ) → r < 32 → hasRight t FILESYSTEM r k CREATE ≡ true → roleAt t r .filecreate ≡ v → has (born t EVERY-ROLE k) v ≡ true
   unfolding born
   has-born k v l r m h e =
-      has-union EVERY-ROLE (makes t k) 32 v l
-      ∙ some-of (λ r. has EVERY-ROLE r && has (makes t k r) v) 32 r m
-      (both (has EVERY-ROLE r) (has (makes t k r) v) (every r m)
-      (has-makes k r v l ∙ both (hasRight t FILESYSTEM r k CREATE) (eqb (roleAt t r .filecreate) v) h (eq-eqb _ _ e)))
+      has-union EVERY-ROLE (bears t k) 32 v l
+      ∙ some-of (λ r. has EVERY-ROLE r && has (bears t k r) v) 32 r m
+      (both (has EVERY-ROLE r) (has (bears t k r) v) (every r m)
+      (has-bears k r v l ∙ both (hasRight t FILESYSTEM r k CREATE) (eqb (roleAt t r .filecreate) v) h (eq-eqb _ _ e)))
 
   born-by : (k v : ℕ) → v < 32 → has (born t EVERY-ROLE k) v ≡ true → (r : ℕ) × (r < 32) × (hasRight t FILESYSTEM r k CREATE ≡ true) × (roleAt t r .filecreate ≡ v)
   unfolding born
   born-by k v l e =
-      let r = some-at (λ r. has EVERY-ROLE r && has (makes t k r) v) 32 (sym (has-union EVERY-ROLE (makes t k) 32 v l) ∙ e) in
-      let h = sym (has-makes k (r .0) v l) ∙ right (has EVERY-ROLE (r .0)) (has (makes t k (r .0)) v) (r .2) in (
+      let r = some-at (λ r. has EVERY-ROLE r && has (bears t k r) v) 32 (sym (has-union EVERY-ROLE (bears t k) 32 v l) ∙ e) in
+      let h = sym (has-bears k (r .0) v l) ∙ right (has EVERY-ROLE (r .0)) (has (bears t k (r .0)) v) (r .2) in (
         r .0,
         r .1,
         left (hasRight t FILESYSTEM (r .0) k CREATE) (eqb (roleAt t (r .0) .filecreate) v) h,
@@ -115,8 +116,8 @@ module _ (t : List ℕ) where
       )
 
   -- no role creates nothing
-  pub no-births : (s : ℕ) → rowOf (λ k. 0) ≡ rowOf (λ k. union 0 s (makes t k))
-  no-births s = row-same (λ k. 0) (λ k. union 0 s (makes t k)) (λ k l. sym (union-none s (makes t k)))
+  pub no-births : (s : ℕ) → rowOf (λ k. 0) ≡ rowOf (λ k. union 0 s (bears t k))
+  no-births s = row-same (λ k. 0) (λ k. union 0 s (bears t k)) (λ k l. sym (union-none s (bears t k)))
 
   -- C6 for a DIR: what all roles create below the types in T(o) is in T(o)
   pub births-closed : (w : List ℕ) (o : ℕ) → createsInside t w o ≡ closed (rowOf (born t EVERY-ROLE)) (T w o)

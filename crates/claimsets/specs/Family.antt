@@ -1,12 +1,14 @@
--- What the roles of a set may do as a whole, worked out of the roles alone, so that a file is tested by whole words.
--- proofs/Family.antt ties these to the rules of a claim. Assumes nothing.
+-- Not to be believed: what the roles of a set may do as a whole, worked out of the roles alone, so that a file is tested by whole words.
+-- proofs/Family.antt ties these to the rules of a claim, and the checker's contract speaks of those.
+-- Assumes nothing.
 use Prim.Native.Nat.{ℕ, zero, suc}
 use mathlib.Core.Bool.{Bool, cond}
 use mathlib.Core.List.{List, [], _∷_}
 use Rattle.sets.specs.Sets.{has, added, inside, collect, union}
 use Rattle.model.specs.Numbers.{FILESYSTEM, ROLES, TYPES, CREATE}
 use Rattle.model.specs.Words.{_!_}
-use Rattle.model.specs.Records.{rightsAddr, roleAt, hasRight}
+use Rattle.model.specs.Layout.{rightsAddr}
+use Rattle.model.specs.Records.{roleAt, hasRight}
 
 -- the set of all 32 roles
 abbrev pub EVERY-ROLE : ℕ
@@ -20,13 +22,17 @@ rightsTo t s g k = union ROLES s (λ r. t ! rightsAddr g r k)
 unfoldable pub reach : List ℕ → ℕ → ℕ → ℕ → ℕ
 reach t s g right = collect TYPES (λ k. has (rightsTo t s g k) right)
 
--- the type of what role r creates below a DIR of type k: none where it has no CREATE to k, or inherits
-unfoldable pub makes : List ℕ → ℕ → ℕ → ℕ
-makes t k r = cond (hasRight t FILESYSTEM r k CREATE) (added 0 (roleAt t r .filecreate)) 0
+-- what role r creates below a DIR of type k, where the type of what it makes is known as a set: nothing where it has no CREATE to k
+unfoldable pub birth : List ℕ → ℕ → ℕ → ℕ → ℕ
+birth t r k made = cond (hasRight t FILESYSTEM r k CREATE) made 0
+
+-- the same of a role's own file create type, an empty set where it inherits
+abbrev pub bears : List ℕ → ℕ → ℕ → ℕ
+bears t k r = birth t r k (added 0 (roleAt t r .filecreate))
 
 -- the types of what roles of s create below a DIR of type k
 unfoldable pub born : List ℕ → ℕ → ℕ → ℕ
-born t s k = union ROLES s (makes t k)
+born t s k = union ROLES s (bears t k)
 
 -- the n words f k, f (k + 1), ..
 abbrev pub rowFrom : ℕ → ℕ → (ℕ → ℕ) → List ℕ

@@ -7,14 +7,12 @@ use sets::RoleSet;
 use tables::addresses::rights_addr;
 use tables::records::has_right;
 use tables::records::role_at;
-use tables::words::word;
+use tables::words::set_at;
 ghost use mathlib.Core.Path.{_≡_};
-ghost use mathlib.Core.Bool.{cond};
+ghost use lib.ListN.{length};
 ghost use Rattle.sets.specs.Sets.{joined};
-ghost use Rattle.model.specs.Numbers.{FILESYSTEM as FILES, CREATE as CREATES};
 ghost use Rattle.model.specs.Words.{_!_};
-ghost use Rattle.model.specs.Records.{hasRight};
-ghost use Rattle.claimsets.specs.Family.{rightsTo, reach as reachOf, makes as makesOf, born, rowOf, closed as closedOf};
+ghost use Rattle.claimsets.specs.Family.{rightsTo, reach as reachOf, birth as birthOf, bears, born, rowOf, closed as closedOf};
 
 // The set of all 32 roles.
 pub const EVERY_ROLE: u32 = 0xffff_ffff;
@@ -27,9 +25,7 @@ pub fn rights_to(t: &[u32], roles: RoleSet, group: u32, rctype: u32) -> RoleSet
     let mut r: u32 = 0;
     while r < ROLES {
         if roles.has(r) {
-            all = all.join(RoleSet {
-                bits: word(t, rights_addr(group, r, rctype)),
-            });
+            all = all.join(set_at(t, rights_addr(group, r, rctype)));
         }
         r += 1;
     }
@@ -51,9 +47,9 @@ pub fn reach(t: &[u32], roles: RoleSet, group: u32, right: u32) -> RoleSet
     types
 }
 
-// The type of what a role creates below a DIR of a type, where its create type is known as a set: none where it has no CREATE to that type.
-fn makes(t: &[u32], role: u32, rctype: u32, made: RoleSet) -> RoleSet
-    ensures { λ r. ⌜ r .bits ≡ cond (hasRight (now (t .entry)) FILES role rctype CREATES) (made .bits) 0 ⌝ }
+// What a role creates below a DIR of a type, where its create type is known as a set: nothing where it has no CREATE to that type.
+fn birth(t: &[u32], role: u32, rctype: u32, made: RoleSet) -> RoleSet
+    ensures { λ r. ⌜ r .bits ≡ birthOf (now (t .entry)) role rctype (made .bits) ⌝ }
 {
     if has_right(t, FILESYSTEM, role, rctype, CREATE) {
         made
@@ -62,20 +58,19 @@ fn makes(t: &[u32], role: u32, rctype: u32, made: RoleSet) -> RoleSet
     }
 }
 
-// A row of sets, one for each type, with what a role creates below a DIR of that type; an inherited type adds nothing.
-fn with_role(row: [u32; 32], t: &[u32], role: u32) -> [u32; 32]
-    ensures { λ r. ⌜ r ≡ rowOf (λ k. joined (row ! k) (makesOf (now (t .entry)) k role)) ⌝ }
+// A row of sets, one for each type, gets what a role creates below a DIR of that type; an inherited type adds nothing.
+fn join_role(row: &mut [u32], t: &[u32], role: u32)
+    requires { ⌜ length (now row) ≡ 32 ⌝ }
+    ensures { λ _. ⌜ now (row .exit) ≡ rowOf (λ k. joined (now (row .entry) ! k) (bears (now (t .entry)) k role)) ⌝ }
 {
     let none = RoleSet { bits: 0 };
     let made = none.add(role_at(t, role).filecreate);
-    let mut all = [0u32; 32];
     let mut k = 0;
     while k < 32 {
         let before = RoleSet { bits: row[k] };
-        all[k] = before.join(makes(t, role, k as u32, made)).bits;
+        row[k] = before.join(birth(t, role, k as u32, made)).bits;
         k += 1;
     }
-    all
 }
 
 // The types of what roles of the set create below a DIR of each of the 32 types.
@@ -86,8 +81,7 @@ pub fn births(t: &[u32], roles: RoleSet) -> [u32; 32]
     let mut r: u32 = 0;
     while r < ROLES {
         if roles.has(r) {
-            let more = with_role(row, t, r);
-            row = more;
+            join_role(&mut row, t, r);
         }
         r += 1;
     }

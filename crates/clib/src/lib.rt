@@ -1,26 +1,24 @@
 // The library for C: a row of tables is lent to each function as a pointer and a number of words. include/monitor.h is its face.
 use claims::check;
-use effective::queries::query_forced;
-use effective::queries::query_initial;
-use effective::queries::query_type;
-use formed::fresh;
+use formed::build_fresh;
 use formed::well_formed;
-use kinds::Decoded;
-use kinds::decode;
+use kinds::step_by_kind;
 use model::Answer;
 use model::Found;
 use model::Verdict;
-use monitor::act;
-use rules::refusal::refused;
+use queries::query_forced;
+use queries::query_initial;
+use queries::query_type;
 ghost use mathlib.Core.Path.{_≡_};
+ghost use mathlib.Core.List.{[], _∷_};
 ghost use Rattle.model.specs.Outcome.{outcome};
 ghost use Rattle.model.specs.WellFormed.{wellFormed};
-ghost use Rattle.model.specs.Fresh.{build};
-ghost use Rattle.model.specs.Effective.{queryType, queryInitial, queryForced};
+ghost use Rattle.model.specs.Fresh.{buildFresh};
+ghost use Rattle.model.specs.Queries.{queryType, queryInitial, queryForced};
 ghost use Rattle.model.specs.Claims.{check as checkOf};
-ghost use Rattle.clib.specs.Calls.{callOf};
+ghost use Rattle.kinds.specs.Kinds.{stepByKind};
 
-// One call of a process, by its kind and its numbers; the tables are tested once.
+// One call of a process, by its kind and its numbers; a fifth number is none that a call of today takes.
 #[no_mangle]
 pub extern "C" fn rc_call(
     tables: &mut [u32],
@@ -31,23 +29,17 @@ pub extern "C" fn rc_call(
     c: u32,
     d: u32,
 ) -> Answer
-    ensures { λ r. ⌜ outcome r (now (tables .exit)) ≡ callOf (now (tables .entry)) kind caller a b c d ⌝ }
+    ensures { λ r. ⌜ outcome r (now (tables .exit)) ≡ stepByKind (now (tables .entry)) kind caller (a ∷ b ∷ c ∷ d ∷ 0 ∷ []) ⌝ }
 {
-    if !well_formed(tables) {
-        return refused(1);
-    }
-    match decode(kind, a, b, c, d) {
-        Decoded::Unknown => refused(2),
-        Decoded::Known(call) => act(tables, caller, call),
-    }
+    step_by_kind(tables, kind, caller, [a, b, c, d, 0])
 }
 
 // Fresh tables over whatever the row held.
 #[no_mangle]
 pub extern "C" fn rc_fresh(tables: &mut [u32]) -> Answer
-    ensures { λ r. ⌜ outcome r (now (tables .exit)) ≡ build (now (tables .entry)) ⌝ }
+    ensures { λ r. ⌜ outcome r (now (tables .exit)) ≡ buildFresh (now (tables .entry)) ⌝ }
 {
-    fresh(tables)
+    build_fresh(tables)
 }
 
 // Whether the tables are well formed.

@@ -13,12 +13,13 @@ use Rattle.sets.specs.Sets.{has}
 use Rattle.sets.proofs.Below.{both, either, which, all-at, some-of}
 use Rattle.sets.proofs.Sets.{has-bound, inside-at}
 use Rattle.model.specs.Numbers.{GROUPS, FILESYSTEM, PROCESS, PROCESSES, FILES, ROLES, USERS, TYPES, DIR, INHERIT-PARENT, INHERIT-USER, UP-MIXED, WRITE, EXECUTE, CREATE, DELETE, CHANGE-OWNER, ASSIGN}
+use Rattle.model.specs.Layout.{FILE-TYPE, FORCED, INITIAL, KIND}
 use Rattle.model.specs.Records.{processAt, fileWord, roleAt, userRole, hasRight, occupied}
 use Rattle.model.specs.WellFormed.{wellFormed}
-use Rattle.model.specs.Effective.{effType, effInitial, effForced}
-use Rattle.model.specs.Claims.{processIn, typeIn, S, Q, T, toSome, someRoleTo, plainIn, startable, ownForced, carried, assignsNothing, createsInside, holds, starts, C1, C2, C3, C4, C5, C6, C7, C8, C9, broken, claimNo, verdict, check}
+use Rattle.model.specs.Effective.{valueAt}
+use Rattle.model.specs.Claims.{processIn, typeIn, S, Q, T, toSome, someRoleTo, plainIn, startable, ownForced, carried, assignsNothing, createsInside, holds, starts, C1, C2, C3, C4, C5, C6, C7, C8, C9, broken, claimNo, verdict, check, powerless, spares}
 use Rattle.model.specs.Runs.{changes}
-use Rattle.model.proofs.Granted.{granted}
+use Rattle.model.proofs.Decided.{tested}
 use Rattle.model.proofs.Formed.{WellFormed, facts, dir-occupied}
 
 -- ---- the words that the rules use
@@ -67,12 +68,12 @@ pub carried-own : (t w : List ℕ) → carried t w (ownForced t w) ≡ true
 unfolding carried
 carried-own t w = rw (eq-eqb (ownForced t w) (ownForced t w) refl)
 
-pub carried-by : (t w : List ℕ) (o : ℕ) → o < FILES → startable t w o ≡ true → carried t w (effForced t o .value) ≡ true
+pub carried-by : (t w : List ℕ) (o : ℕ) → o < FILES → startable t w o ≡ true → carried t w (valueAt t FORCED o) ≡ true
 unfolding carried
 carried-by t w o l h =
-    let v = effForced t o .value in
-    either (eqb (ownForced t w) v) (someBelow FILES (λ o. startable t w o && eqb (effForced t o .value) v))
-    (some-of (λ o. startable t w o && eqb (effForced t o .value) v) FILES o l (both (startable t w o) (eqb (effForced t o .value) v) h (eq-eqb v v refl)))
+    let v = valueAt t FORCED o in
+    either (eqb (ownForced t w) v) (someBelow FILES (λ o. startable t w o && eqb (valueAt t FORCED o) v))
+    (some-of (λ o. startable t w o && eqb (valueAt t FORCED o) v) FILES o l (both (startable t w o) (eqb (valueAt t FORCED o) v) h (eq-eqb v v refl)))
 
 -- ---- the facts, rule by rule
 
@@ -98,13 +99,13 @@ pub record Accepted (t w : List ℕ) : Type 0 where
   pub execute : (r : ℕ) → has (S w) r ≡ true → PlainIn (Q w) (roleAt t r .execute)
   pub chown : (r : ℕ) → has (S w) r ≡ true → PlainIn (Q w) (roleAt t r .chown)
   -- C6
-  pub ownType : (o : ℕ) → o < FILES → occupied t FILESYSTEM o ≡ true → has (T w o) (effType t o .value) ≡ true
-  pub createdType : (o r k : ℕ) → o < FILES → fileWord t o 0 ≡ DIR → r < ROLES → has (T w o) k ≡ true
+  pub ownType : (o : ℕ) → o < FILES → occupied t FILESYSTEM o ≡ true → has (T w o) (valueAt t FILE-TYPE o) ≡ true
+  pub createdType : (o r k : ℕ) → o < FILES → fileWord t o KIND ≡ DIR → r < ROLES → has (T w o) k ≡ true
       → hasRight t FILESYSTEM r k CREATE ≡ true → PlainIn (T w o) (roleAt t r .filecreate)
   -- C7
   pub own : PlainIn (S w) (ownForced t w)
-  pub initial : (o : ℕ) → o < FILES → startable t w o ≡ true → PlainIn (S w) (effInitial t o .value)
-  pub forced : (o : ℕ) → o < FILES → startable t w o ≡ true → PlainIn (S w) (effForced t o .value)
+  pub initial : (o : ℕ) → o < FILES → startable t w o ≡ true → PlainIn (S w) (valueAt t INITIAL o)
+  pub forced : (o : ℕ) → o < FILES → startable t w o ≡ true → PlainIn (S w) (valueAt t FORCED o)
   -- C8
   pub owner : carried t w INHERIT-USER ≡ true → has (S w) (userRole t (processAt t (processIn w) .owner)) ≡ true
   -- C9
@@ -124,32 +125,32 @@ module _ (t w : List ℕ) where
 
   numbered : claimNo t w ≡ 0 → (wellFormed t ≡ true) × (processIn w < PROCESSES) × (occupied t PROCESS (processIn w) ≡ true)
   unfolding claimNo
-  numbered e = let h = simp granted at e in (h .0 .0, h .1 .0 .0, h .1 .1)
+  numbered e = let h = simp tested at e in (h .0 .0, h .1 .0 .0, h .1 .1)
 
   rules : broken t w ≡ 0
       → (C1 t w ≡ true) × (C2 t w ≡ true) × (C3 t w ≡ true) × (C4 t w ≡ true) × (C5 t w ≡ true)
       × (C6 t w ≡ true) × (C7 t w ≡ true) × (C8 t w ≡ true) × (C9 t w ≡ true)
   unfolding broken
-  rules e = let h = simp granted at e in search
+  rules e = let h = simp tested at e in search
 
   c1 : C1 t w ≡ true → (has (S w) (processAt t (processIn w) .role) ≡ true) × (has (Q w) (processAt t (processIn w) .rctype) ≡ true)
   unfolding C1
-  c1 e = simp granted at e
+  c1 e = simp tested at e
 
   c2 : C2 t w ≡ true → (r : ℕ) → has (S w) r ≡ true
       → (roleAt t r .mark ≡ false) × (roleAt t r .admin .bits ≡ 0) × (roleAt t r .assign .bits ≡ 0) × (assignsNothing t r ≡ true)
-  unfolding C2
-  c2 e r m = let h = simp granted at (at-role w _ e r m) in search
+  unfolding C2 powerless
+  c2 e r m = let h = simp tested at (at-role w _ e r m) in search
 
   nothing : (r : ℕ) → assignsNothing t r ≡ true → (g k : ℕ) → g < GROUPS → k < TYPES → hasRight t g r k ASSIGN ≡ false
   unfolding assignsNothing
-  nothing r e g k l m = simp granted at (all-at _ TYPES (all-at _ GROUPS e g l) k m)
+  nothing r e g k l m = simp tested at (all-at _ TYPES (all-at _ GROUPS e g l) k m)
 
   c3 : C3 t w ≡ true → (r : ℕ) → has (S w) r ≡ true
       → (hasRight t FILESYSTEM r (typeIn w) WRITE ≡ false) × (hasRight t FILESYSTEM r (typeIn w) CREATE ≡ false)
       × (hasRight t FILESYSTEM r (typeIn w) DELETE ≡ false) × (roleAt t r .filecreate ≢ typeIn w)
-  unfolding C3
-  c3 e r m = let h = simp granted at (at-role w _ e r m) in search
+  unfolding C3 spares
+  c3 e r m = let h = simp tested at (at-role w _ e r m) in search
 
   -- the rights that change an object are WRITE, CREATE and DELETE
   changing : C3 t w ≡ true → (r right : ℕ) → has (S w) r ≡ true → changes right ≡ true → hasRight t FILESYSTEM r (typeIn w) right ≡ false
@@ -166,26 +167,26 @@ module _ (t w : List ℕ) where
   c5 : C5 t w ≡ true → (r : ℕ) → has (S w) r ≡ true
       → (plainIn (Q w) (roleAt t r .processcreate) ≡ true) × (plainIn (Q w) (roleAt t r .execute) ≡ true) × (plainIn (Q w) (roleAt t r .chown) ≡ true)
   unfolding C5
-  c5 e r m = let h = simp granted at (at-role w _ e r m) in search
+  c5 e r m = let h = simp tested at (at-role w _ e r m) in search
 
   c6 : C6 t w ≡ true → (o : ℕ) → o < FILES → occupied t FILESYSTEM o ≡ true
-      → (has (T w o) (effType t o .value) ≡ true) × (not (eqb (fileWord t o 0) DIR) || createsInside t w o ≡ true)
+      → (has (T w o) (valueAt t FILE-TYPE o) ≡ true) × (not (eqb (fileWord t o KIND) DIR) || createsInside t w o ≡ true)
   unfolding C6 holds
-  c6 e o l h = let a : holds t w o ≡ true = all-at (holds t w) FILES e o l in simp granted at (rw h at a)
+  c6 e o l h = let a : holds t w o ≡ true = all-at (holds t w) FILES e o l in simp tested at (rw h at a)
 
-  creates : (o : ℕ) → createsInside t w o ≡ true → (r k : ℕ) → r < ROLES → has (T w o) k ≡ true → hasRight t FILESYSTEM r k CREATE ≡ true
+  created : (o : ℕ) → createsInside t w o ≡ true → (r k : ℕ) → r < ROLES → has (T w o) k ≡ true → hasRight t FILESYSTEM r k CREATE ≡ true
       → plainIn (T w o) (roleAt t r .filecreate) ≡ true
   unfolding createsInside
-  creates o e r k l h m = implies-at _ _ (all-at _ ROLES e r l) (to-some t FILESYSTEM r (T w o) CREATE k h m)
+  created o e r k l h m = implies-at _ _ (all-at _ ROLES e r l) (to-some t FILESYSTEM r (T w o) CREATE k h m)
 
   c7 : C7 t w ≡ true → (plainIn (S w) (ownForced t w) ≡ true) × ((o : ℕ) → o < FILES → starts t w o ≡ true)
   unfolding C7
-  c7 e = let h = simp granted at e in (h .0, all-at _ FILES (h .1))
+  c7 e = let h = simp tested at e in (h .0, all-at _ FILES (h .1))
 
   started : (o : ℕ) → starts t w o ≡ true → startable t w o ≡ true
-      → (plainIn (S w) (effInitial t o .value) ≡ true) × (plainIn (S w) (effForced t o .value) ≡ true)
+      → (plainIn (S w) (valueAt t INITIAL o) ≡ true) × (plainIn (S w) (valueAt t FORCED o) ≡ true)
   unfolding starts
-  started o e h = simp granted at (implies-at _ _ e h)
+  started o e h = simp tested at (implies-at _ _ e h)
 
   c8 : C8 t w ≡ true → carried t w INHERIT-USER ≡ true → has (S w) (userRole t (processAt t (processIn w) .owner)) ≡ true
   unfolding C8
@@ -217,7 +218,7 @@ module _ (t w : List ℕ) where
         execute = λ r m. plain-in _ _ (c5 (c .4) r m .1);
         chown = λ r m. plain-in _ _ (c5 (c .4) r m .2);
         ownType = λ o l h. c6 (c .5) o l h .0;
-        createdType = λ o r k l d m h i. plain-in _ _ (creates o (implies-at _ _ (c6 (c .5) o l (dir-occupied t o d) .1) (eq-eqb _ _ d)) r k m h i);
+        createdType = λ o r k l d m h i. plain-in _ _ (created o (implies-at _ _ (c6 (c .5) o l (dir-occupied t o d) .1) (eq-eqb _ _ d)) r k m h i);
         own = plain-in _ _ (c7 (c .6) .0);
         initial = λ o l h. plain-in _ _ (started o (c7 (c .6) .1 o l) h .0);
         forced = λ o l h. plain-in _ _ (started o (c7 (c .6) .1 o l) h .1);

@@ -1,4 +1,4 @@
--- Confinement. The invariant holds at the start of a run, and each call keeps it and is harmless; so by induction over the calls.
+-- Confinement. The invariant holds at the start of a run, and each call keeps it and is harmless; so by induction over the events.
 -- Assumes nothing.
 use Prim.Native.Nat.{ℕ}
 use mathlib.Core.Path.{_≡_}
@@ -10,10 +10,10 @@ use Rattle.model.specs.Numbers.{PROCESSES}
 use Rattle.model.specs.Records.{processAt}
 use Rattle.model.specs.Step.{step}
 use Rattle.model.specs.Claims.{S, check}
-use Rattle.model.specs.Runs.{Asked, Family, founder, membersWithin, allowed, confined}
+use Rattle.model.specs.Runs.{Family, founder, membersWithin, allowed, confined, Event, asks}
+use Rattle.confinement.proofs.Calls.{step-good}
 use Rattle.confinement.proofs.Claim.{implies-of, Accepted, accepted}
 use Rattle.confinement.proofs.Invariant.{Invariant, at-start}
-use Rattle.confinement.proofs.Calls.{step-good}
 
 members-within : (t₀ w t : List ℕ) (F : Family) → Invariant t₀ w t F → membersWithin w t F ≡ true
 unfolding membersWithin
@@ -21,19 +21,19 @@ members-within t₀ w t F inv =
     all-of (λ p. not (F p) || has (S w) (processAt t p .role)) PROCESSES
     (λ p l. implies-of (F p) (has (S w) (processAt t p .role)) (λ f. inv .members p f .within .role))
 
-run-confined : (t₀ w : List ℕ) → Accepted t₀ w → (run : List Asked) (t : List ℕ) (F : Family) → Invariant t₀ w t F
+run-confined : (t₀ w : List ℕ) → Accepted t₀ w → (run : List Event) (t : List ℕ) (F : Family) → Invariant t₀ w t F
     → allowed t F run ≡ true → confined w t F run ≡ true
 unfolding allowed confined
 run-confined t₀ w claim [] t F inv a = members-within t₀ w t F inv
-run-confined t₀ w claim (x ∷ rest) t F inv a =
+run-confined t₀ w claim (asks c call ∷ rest) t F inv a =
     let h = simp and-eq-true-iff at a in
-    let g = step-good t₀ w claim t F inv (x .caller) (x .call) (h .0) in
-    both _ _ (both _ _ (members-within t₀ w t F inv) (implies-of (F (x .caller)) _ (g .1)))
-    (run-confined t₀ w claim rest (step t (x .caller) (x .call) .after) _ (g .0) (h .1))
+    let g = step-good t₀ w claim t F inv c call (h .0) in
+    both _ _ (both _ _ (members-within t₀ w t F inv) (implies-of (F c) _ (g .1)))
+    (run-confined t₀ w claim rest (step t c call .after) _ (g .0) (h .1))
 
 -- An accepted claim confines: in every run from its row in which no process outside the family is granted an administration call, each member
 -- of the family keeps to the roles of S, is granted no administration call, and writes, deletes and creates no object of type k.
-pub an-accepted-claim-confines : (t w : List ℕ) (run : List Asked)
+pub an-accepted-claim-confines : (t w : List ℕ) (run : List Event)
     → check t w .number ≡ 0
     → allowed t (founder w) run ≡ true
     → confined w t (founder w) run ≡ true

@@ -1,4 +1,4 @@
--- What stays true of a run, with the accepted claim on its first row t₀. Roles, users and rights are those of t₀. Each occupied file has an anchor,
+-- What stays true of a run, with the accepted claim on its first row t₀. Roles, users and rights are no more than those of t₀. Each occupied file has an anchor,
 -- a place of t₀ that bounds it: a type in the anchor's T, the anchor's effective initial and forced values. Each member of the family is
 -- within S and Q with a forced value that is carried. Nothing is said of which files are those of t₀, so that reuse of a place costs nothing.
 -- Assumes nothing.
@@ -14,14 +14,16 @@ use Rattle.sets.specs.Sets.{has}
 use Rattle.sets.proofs.Below.{which, some-at}
 use Rattle.model.specs.declared.Process.{Process}
 use Rattle.model.specs.Numbers.{FILESYSTEM, PROCESS, PROCESSES, FILES, ROLES, DIR, INHERIT-USER}
+use Rattle.model.specs.Layout.{FILE-TYPE, FORCED, INITIAL, KIND}
 use Rattle.model.specs.Records.{forcedWord, processAt, fileWord, userRole, occupied}
-use Rattle.model.specs.Effective.{effType, effInitial, effForced}
+use Rattle.model.specs.Effective.{valueAt}
 use Rattle.model.specs.Claims.{processIn, S, Q, T, startable, ownForced, carried}
 use Rattle.model.specs.Runs.{Family, founder}
-use Rattle.model.proofs.Granted.{granted}
-use Rattle.model.proofs.Records.{SamePolicy, roleInForced}
+use Rattle.model.proofs.Records.{roleInForced}
+use Rattle.model.proofs.Decided.{tested}
 use Rattle.model.proofs.Formed.{WellFormed, live-process}
 use Rattle.confinement.proofs.Claim.{PlainIn, Accepted, carried-own}
+use Rattle.confinement.proofs.Less.{NoMore, fewer-same}
 
 module _ (t₀ w : List ℕ) where
   -- ---- processes
@@ -46,16 +48,16 @@ module _ (t₀ w : List ℕ) where
     pub at : ℕ
     pub placed : at < FILES
     pub used : occupied t₀ FILESYSTEM at ≡ true
-    pub dir : fileWord t x 0 ≡ DIR → fileWord t₀ at 0 ≡ DIR
-    pub rctype : has (T w at) (effType t x .value) ≡ true
-    pub initial : effInitial t x .value ≡ effInitial t₀ at .value
-    pub forced : effForced t x .value ≡ effForced t₀ at .value
+    pub dir : fileWord t x KIND ≡ DIR → fileWord t₀ at KIND ≡ DIR
+    pub rctype : has (T w at) (valueAt t FILE-TYPE x) ≡ true
+    pub initial : valueAt t INITIAL x ≡ valueAt t₀ INITIAL at
+    pub forced : valueAt t FORCED x ≡ valueAt t₀ FORCED at
 
   -- ---- the row and the family
 
   pub record Invariant (t : List ℕ) (F : Family) : Type 0 where
     pub formed : WellFormed t
-    pub policy : SamePolicy t₀ t
+    pub policy : NoMore t₀ t
     pub anchors : (x : ℕ) → x < FILES → occupied t FILESYSTEM x ≡ true → Anchor t x
     pub members : (p : ℕ) → F p ≡ true → Member t p
 
@@ -66,17 +68,17 @@ module _ (t₀ w : List ℕ) where
     carried-plain v e =
         ⊎-elim (λ h. rw (eqb-true (ownForced t₀ w) v h) at (claim .own))
         (λ h.
-        let o = some-at (λ o. startable t₀ w o && eqb (effForced t₀ o .value) v) FILES h in
-        let m = simp granted at (o .2) in
+        let o = some-at (λ o. startable t₀ w o && eqb (valueAt t₀ FORCED o) v) FILES h in
+        let m = simp tested at (o .2) in
         rw (m .1) at (claim .forced (o .0) (o .1) (m .0)))
-        (which (eqb (ownForced t₀ w) v) (someBelow FILES (λ o. startable t₀ w o && eqb (effForced t₀ o .value) v)) e)
+        (which (eqb (ownForced t₀ w) v) (someBelow FILES (λ o. startable t₀ w o && eqb (valueAt t₀ FORCED o) v)) e)
 
     -- it holds at the start: each file is its own anchor (C6), and the process is within the bounds (C1, C8)
     pub at-start : Invariant t₀ (founder w)
     at-start =
         record {
           formed = claim .formed;
-          policy = record { roles = λ r l. refl; users = λ i l. refl; rights = λ g r k right. refl };
+          policy = record { roles = λ r l. fewer-same _ _ refl; users = λ i l. refl; rights = λ g r k right gl rl kl h. h };
           anchors = λ x l o. record { at = x; placed = l; used = o; dir = λ d. d; rctype = claim .ownType x l o; initial = refl; forced = refl };
           members = λ p e. rw (eqb-true p (processIn w) e) first;
         }

@@ -1,3 +1,4 @@
+pub mod Less
 pub mod Claim
 pub mod Invariant
 pub mod Processes

@@ -1,56 +1,39 @@
 -- What one call has to come to. A refusal leaves row and family, and is harmless; so only a grant has to be looked at.
 -- Assumes nothing.
 use Prim.Native.Nat.{ℕ}
-use mathlib.Core.Path.{_≡_, refl, sym, _∙_}
+use mathlib.Core.Path.{_≡_, refl}
 use mathlib.Core.Bool.{true, _||_, and-false, or-false}
 use mathlib.Core.List.{List}
 use mathlib.Core.Logic.{_≢_}
 use native.Mathlib.Decide.{ℕ-discrete}
 use borrow.Author.Tests.{ne-eqb}
 use Rattle.sets.proofs.Below.{left}
-use Rattle.model.specs.Outcome.{Outcome, outcome, decide}
+use Rattle.model.specs.Outcome.{Outcome, granting, refusing, decide}
 use Rattle.model.specs.Claims.{typeIn}
-use Rattle.model.specs.Runs.{Deed, joins, leaves, reaches, makes, removes, administers, passes, Family, familyAfter, harmless, unadministered}
-use Rattle.model.proofs.Granted.{refusal, grant}
+use Rattle.model.specs.Runs.{Deed, joins, leaves, reaches, creates, deletes, administers, other, Family, familyBy, harmless, unadministered}
+use Rattle.model.proofs.Decided.{decide-refusing, decide-granting}
 use Rattle.confinement.proofs.Invariant.{Invariant}
-
--- the outcomes of a grant and of a refusal
-abbrev pub grants : ℕ → List ℕ → Outcome
-grants place u = outcome (record { number = 0; place = place }) u
-
-abbrev pub refuses : ℕ → List ℕ → Outcome
-refuses n t = outcome (record { number = n; place = 0 }) t
 
 -- what a call has to come to: the invariant again, and no harm if the caller is a member
 abbrev pub Good : List ℕ → List ℕ → List ℕ → Family → ℕ → Deed → Outcome → Type 0
-Good t₀ w t F c d e = Invariant t₀ w (e .after) (familyAfter F c (e .answer) d) × (F c ≡ true → harmless (typeIn w) t e d ≡ true)
+Good t₀ w t F c d e = Invariant t₀ w (e .after) (familyBy F c (e .answer) d) × (F c ≡ true → harmless (typeIn w) t e d ≡ true)
 
 -- a family of members of another
 fewer : (t₀ w t : List ℕ) (F G : Family) → ((p : ℕ) → G p ≡ true → F p ≡ true) → Invariant t₀ w t F → Invariant t₀ w t G
 fewer t₀ w t F G h inv = record { formed = inv .formed; policy = inv .policy; anchors = inv .anchors; members = λ p g. inv .members p (h p g) }
 
 module _ (t₀ w t : List ℕ) (F : Family) (inv : Invariant t₀ w t F) (c : ℕ) where
-  refused : (d : Deed) (n : ℕ) → n ≢ 0 → Good t₀ w t F c d (refuses n t)
+  refused : (d : Deed) (n : ℕ) → n ≢ 0 → Good t₀ w t F c d (refusing n t)
   refused joins n z = (fewer t₀ w t F _ (λ p g. simp (ne-eqb n 0 z, and-false, or-false) at g) inv, λ f. refl)
   refused leaves n z = (fewer t₀ w t F _ (λ p g. left _ _ g) inv, λ f. refl)
   refused (reaches g o right) n z = (inv, λ f. rw (ne-eqb n 0 z))
-  refused makes n z = (inv, λ f. rw (ne-eqb n 0 z))
-  refused (removes o) n z = (inv, λ f. rw (ne-eqb n 0 z))
+  refused creates n z = (inv, λ f. rw (ne-eqb n 0 z))
+  refused (deletes o) n z = (inv, λ f. rw (ne-eqb n 0 z))
   refused administers n z = (inv, λ f. rw (ne-eqb n 0 z))
-  refused passes n z = (inv, λ f. refl)
+  refused other n z = (inv, λ f. refl)
 
-  by-grant : (d : Deed) (n place : ℕ) (u : List ℕ)
-      → (n ≡ 0 → F c || unadministered (grants place u .answer) d ≡ true → Good t₀ w t F c d (grants place u))
+  pub by-grant : (d : Deed) (n place : ℕ) (u : List ℕ)
+      → (n ≡ 0 → F c || unadministered (granting place u .answer) d ≡ true → Good t₀ w t F c d (granting place u))
       → F c || unadministered (decide t n place u .answer) d ≡ true → Good t₀ w t F c d (decide t n place u)
   by-grant d n place u h =
-      elim (ℕ-discrete n 0) [ yes e ↦ rw (grant t n place u e) (h e) | no z ↦ rw (refusal t n place u z) (λ a. refused d n z) ]
-
-  -- a process call: what is left to show is that its grant is good
-  pub by-process : (d : Deed) (n place : ℕ) (u : List ℕ) → (n ≡ 0 → Good t₀ w t F c d (grants place u))
-      → F c || unadministered (decide t n place u .answer) d ≡ true → Good t₀ w t F c d (decide t n place u)
-  by-process d n place u good = by-grant d n place u (λ e a. good e)
-
-  -- an administration call: an outsider is granted none by hypothesis, and so it is left to show that a member is granted none
-  pub by-administration : (n : ℕ) (u : List ℕ) → (F c ≡ true → n ≡ 0 → ⊥)
-      → F c || unadministered (decide t n 0 u .answer) administers ≡ true → Good t₀ w t F c administers (decide t n 0 u)
-  by-administration n u never = by-grant administers n 0 u (λ e a. absurd (never (sym (or-false (F c)) ∙ a) e))
+      elim (ℕ-discrete n 0) [ yes e ↦ rw (decide-granting t n place u e) (h e) | no z ↦ rw (decide-refusing t n place u z) (λ a. refused d n z) ]

@@ -9,33 +9,31 @@ use mathlib.Core.List.{List}
 use mathlib.Core.Logic.{_≢_, _⊎_, ⊎-elim}
 use native.Mathlib.Omega.{arith}
 use native.Mathlib.Decide.{ℕ-discrete}
-use Rattle.model.specs.declared.Process.{Process}
 use Rattle.model.specs.declared.File.{File}
 use Rattle.model.specs.declared.Ipc.{Ipc}
-use Rattle.model.specs.Numbers.{FILESYSTEM, PROCESS, PROCESSES, FILES, IPCS, USE-FORCED-ROLE, UP-MIXED}
-use Rattle.model.specs.Records.{processAddr, processAt, putProcess, fileWord, putFile, putIpc, occupied}
-use Rattle.model.specs.Effective.{effective, effType, effInitial, effForced}
+use Rattle.model.specs.declared.Process.{Process}
+use Rattle.model.specs.Numbers.{FILESYSTEM, PROCESS, PROCESSES, FILES, IPCS}
+use Rattle.model.specs.Layout.{processAddr, FILE-TYPE, FILE-WORDS, FORCED, INITIAL, KIND}
+use Rattle.model.specs.Records.{processAt, putProcess, fileWord, putFile, putIpc, occupied}
+use Rattle.model.specs.Policy.{SamePolicy}
+use Rattle.model.specs.Effective.{effective, valueAt}
 use Rattle.model.specs.Runs.{Family}
-use Rattle.model.proofs.Records.{Written, SamePolicy, policy-stays, files-stay, process-stays, occupied-stays, process-written, file-written, ipc-written, process-put-same, process-put-other, file-word-put-other, file-occupied, process-put-occupied}
-use Rattle.model.proofs.Formed.{WellFormed, Barren}
+use Rattle.model.proofs.Records.{Written, policy-stays, files-stay, process-stays, occupied-stays, process-written, file-written, ipc-written, process-put-same, process-put-other, file-word-put-other, file-occupied, process-put-occupied}
 use Rattle.model.proofs.Effective.{effective-same, effective-put-other}
+use Rattle.model.proofs.Formed.{WellFormed, Barren}
 use Rattle.confinement.proofs.Invariant.{Within, Member, Anchor, Invariant}
+use Rattle.confinement.proofs.Less.{NoMore, no-more-same, no-more-on}
 
 module _ (t₀ w t : List ℕ) (F : Family) (inv : Invariant t₀ w t F) where
-  policy-after : {u : List ℕ} → SamePolicy t u → SamePolicy t₀ u
-  policy-after s =
-      record {
-        roles = λ r l. s .roles r l ∙ inv .policy .roles r l;
-        users = λ i l. s .users i l ∙ inv .policy .users i l;
-        rights = λ g r k right. s .rights g r k right ∙ inv .policy .rights g r k right;
-      }
+  policy-after : {u : List ℕ} → SamePolicy t u → NoMore t₀ u
+  policy-after {u} s = no-more-on t₀ t u (inv .policy) (no-more-same t u s)
 
   -- ---- files
 
   -- a file with the kind and the effective values that it had
-  anchor-kept : (u : List ℕ) (x : ℕ) → x < FILES → fileWord u x 0 ≡ fileWord t x 0
-      → ((slot top : ℕ) → slot < 6 → effective u slot top x ≡ effective t slot top x) → occupied u FILESYSTEM x ≡ true → Anchor t₀ w u x
-  unfolding effType effInitial effForced
+  anchor-kept : (u : List ℕ) (x : ℕ) → x < FILES → fileWord u x KIND ≡ fileWord t x KIND
+      → ((slot : ℕ) → slot < FILE-WORDS → effective u slot x ≡ effective t slot x) → occupied u FILESYSTEM x ≡ true → Anchor t₀ w u x
+  unfolding valueAt
   anchor-kept u x l kind same o =
       let a = inv .anchors x l (file-occupied t x ∙ rw (← kind) (sym (file-occupied u x) ∙ o)) in
       record {
@@ -43,14 +41,14 @@ module _ (t₀ w t : List ℕ) (F : Family) (inv : Invariant t₀ w t F) where
         placed = a .placed;
         used = a .used;
         dir = λ d. a .dir (sym kind ∙ d);
-        rctype = rw (same 3 0 (omega arith)) (a .rctype);
-        initial = rw (same 4 USE-FORCED-ROLE (omega arith)) (a .initial);
-        forced = rw (same 5 UP-MIXED (omega arith)) (a .forced);
+        rctype = rw (valueAt, same FILE-TYPE (omega arith)) (a .rctype);
+        initial = rw (valueAt, same INITIAL (omega arith)) (a .initial);
+        forced = rw (valueAt, same FORCED (omega arith)) (a .forced);
       }
 
-  anchors-same : (u : List ℕ) → ((o k : ℕ) → fileWord u o k ≡ fileWord t o k)
+  anchors-same : (u : List ℕ) → ((o k : ℕ) → o < FILES → k < FILE-WORDS → fileWord u o k ≡ fileWord t o k)
       → (x : ℕ) → x < FILES → occupied u FILESYSTEM x ≡ true → Anchor t₀ w u x
-  anchors-same u same x l = anchor-kept u x l (same x 0) (λ slot top h. effective-same t u same slot top x)
+  anchors-same u same x l = anchor-kept u x l (same x KIND l (omega arith)) (λ slot h. effective-same t u (inv .formed) same slot h x l)
 
   -- ---- processes
 
@@ -103,8 +101,8 @@ module _ (t₀ w t : List ℕ) (F : Family) (inv : Invariant t₀ w t F) where
         anchors = λ x h o. elim (ℕ-discrete x z) [
           | yes e ↦ rw e (new (rw e at o))
           | no n ↦
-              anchor-kept (putFile t z f) x h (file-word-put-other t z f x 0 n (omega arith))
-              (λ slot top i. effective-put-other t z f (inv .formed) barren slot top i x h n) o
+              anchor-kept (putFile t z f) x h (file-word-put-other t z f x KIND n (omega arith))
+              (λ slot i. effective-put-other t z f (inv .formed) barren slot i x h n) o
         ];
         members = members-same (file-written t z f) (omega arith);
       }

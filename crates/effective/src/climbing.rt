@@ -1,14 +1,15 @@
 // The climb itself (rules 5, 17, 19): to the parent while the value is inherit parent and there is one.
-use crate::PARENT;
+use crate::root_value;
 use model::Climbed;
+use model::layout::PARENT;
 use model::numbers::INHERIT_PARENT;
 use tables::records::file_word;
 ghost use mathlib.Core.Path.{_≡_};
 ghost use Rattle.model.specs.Effective.{climb as climbOf};
 
-// Word `slot` of file o, which has `depth` parents; at the root, inherit parent reads as `top`. It calls itself on the parent.
-pub fn climb(t: &[u32], depth: u32, slot: u32, top: u32, o: u32) -> Climbed
-    ensures { λ r. ⌜ r ≡ climbOf depth (now (t .entry)) slot top o ⌝ }
+// Word `slot` of file o, which has `depth` parents. It calls itself on the parent.
+pub fn climb(t: &[u32], depth: u32, slot: u32, o: u32) -> Climbed
+    ensures { λ r. ⌜ r ≡ climbOf depth (now (t .entry)) slot o ⌝ }
 {
     let value = file_word(t, o, slot);
     if value != INHERIT_PARENT {
@@ -16,11 +17,11 @@ pub fn climb(t: &[u32], depth: u32, slot: u32, top: u32, o: u32) -> Climbed
     }
     if depth == 0 {
         return Climbed {
-            value: top,
+            value: root_value(slot),
             climbed: 0,
         };
     }
-    let up = climb(t, depth - 1, slot, top, file_word(t, o, PARENT));
+    let up = climb(t, depth - 1, slot, file_word(t, o, PARENT));
     Climbed {
         value: up.value,
         climbed: up.climbed + 1,

@@ -1,63 +1,71 @@
 // Whether the words of one record are well formed, and the records that fresh tables have.
-// A free place is told by its first word, and leaves by one branch.
+// The first word tells a free place, and the others are read where they are tested.
 use model::File;
 use model::Forced;
 use model::Initial;
 use model::Kind;
 use model::Process;
+use model::layout::DEFAULTS;
+use model::layout::DEPTH;
+use model::layout::FILE_TYPE;
+use model::layout::FORCED;
+use model::layout::INITIAL;
+use model::layout::IPC_TYPE;
+use model::layout::MARK;
+use model::layout::OWNER;
+use model::layout::PARENT;
+use model::layout::PROCESS_FORCED;
+use model::layout::PROCESS_TYPE;
+use model::layout::ROLE;
 use model::numbers::DEEPEST;
 use model::numbers::DIR;
+use model::numbers::FILE_CREATE;
 use model::numbers::FILES;
 use model::numbers::FREE;
 use model::numbers::INHERIT_PARENT;
-use model::numbers::INHERIT_USER;
+use model::numbers::IPC_CREATE;
+use model::numbers::PROCESS_CHOWN;
+use model::numbers::PROCESS_CREATE;
+use model::numbers::PROCESS_EXECUTE;
 use model::numbers::ROLES;
+use model::numbers::ROOT;
 use model::numbers::TYPES;
-use model::numbers::UP_MIXED;
-use model::numbers::USE_FORCED_ROLE;
-use model::numbers::USE_NEW_ROLE_DEF_CREATE;
 use model::numbers::USERS;
+use rules::ranges::ok_chown;
+use rules::ranges::ok_forced;
+use rules::ranges::ok_initial;
+use rules::ranges::ok_process_forced;
+use rules::ranges::ok_type;
 use tables::addresses::file_addr;
 use tables::addresses::ipc_addr;
 use tables::addresses::process_addr;
 use tables::addresses::role_addr;
 use tables::addresses::user_addr;
 use tables::words::word;
-ghost use mathlib.Core.Bool.{_&&_};
 ghost use mathlib.Core.List.{[], _∷_};
 ghost use mathlib.Core.Path.{_≡_};
-ghost use lib.Dec.{leb};
-ghost use Rattle.model.specs.Numbers.{INHERIT-USER, UP-MIXED};
+ghost use Rattle.model.specs.Layout.{FILE-WORDS, fileAddr};
 ghost use Rattle.model.specs.Words.{block};
-ghost use Rattle.model.specs.Records.{fileAddr};
-ghost use Rattle.model.specs.WellFormed.{okLink, processOk, userOk, roleOk, ipcOk, fileOk};
+ghost use Rattle.model.specs.WellFormed.{linkOk, processOk, userOk, roleOk, ipcOk, fileOk};
 ghost use Rattle.model.specs.Fresh.{firstProcess, rootDir};
 
-// A special forced value that is not inherit parent: 34 to 36.
-fn special_forced(v: u32) -> bool
-    ensures { λ r. ⌜ r ≡ (leb INHERIT-USER v && leb v UP-MIXED) ⌝ }
-{
-    (INHERIT_USER <= v) & (v <= UP_MIXED)
-}
-
-// Live, owner, role, type, forced; inherit parent is no forced role of a process.
+// Live, owner, role, type, forced.
 pub fn process_ok(t: &[u32], p: u32) -> bool
     ensures { λ r. ⌜ r ≡ processOk (now (t .entry)) p ⌝ }
 {
     let a = process_addr(p);
     let live = word(t, a);
-    let owner = word(t, a + 1);
-    let role = word(t, a + 2);
-    let rctype = word(t, a + 3);
-    let forced = word(t, a + 4);
     if live == 0 {
-        return (owner == 0) & (role == 0) & (rctype == 0) & (forced == 0);
+        return (word(t, a + OWNER) == 0)
+            & (word(t, a + ROLE) == 0)
+            & (word(t, a + PROCESS_TYPE) == 0)
+            & (word(t, a + PROCESS_FORCED) == 0);
     }
     (live == 1)
-        & (owner < USERS)
-        & (role < ROLES)
-        & (rctype < TYPES)
-        & ((forced < ROLES) | special_forced(forced))
+        & (word(t, a + OWNER) < USERS)
+        & (word(t, a + ROLE) < ROLES)
+        & (word(t, a + PROCESS_TYPE) < TYPES)
+        & ok_process_forced(word(t, a + PROCESS_FORCED))
 }
 
 // A default role is a plain role.
@@ -72,12 +80,12 @@ pub fn role_ok(t: &[u32], role: u32) -> bool
     ensures { λ r. ⌜ r ≡ roleOk (now (t .entry)) role ⌝ }
 {
     let a = role_addr(role);
-    (word(t, a + 3) <= 1)
-        & (word(t, a + 4) <= INHERIT_PARENT)
-        & (word(t, a + 5) <= INHERIT_PARENT)
-        & (word(t, a + 6) <= INHERIT_PARENT)
-        & (word(t, a + 7) <= USE_NEW_ROLE_DEF_CREATE)
-        & (word(t, a + 8) < TYPES)
+    (word(t, a + MARK) <= 1)
+        & ok_type(word(t, a + (DEFAULTS + (FILE_CREATE as usize))))
+        & ok_type(word(t, a + (DEFAULTS + (PROCESS_CREATE as usize))))
+        & ok_type(word(t, a + (DEFAULTS + (PROCESS_EXECUTE as usize))))
+        & ok_chown(word(t, a + (DEFAULTS + (PROCESS_CHOWN as usize))))
+        & (word(t, a + (DEFAULTS + (IPC_CREATE as usize))) < TYPES)
 }
 
 // Live, type.
@@ -86,7 +94,7 @@ pub fn ipc_ok(t: &[u32], i: u32) -> bool
 {
     let a = ipc_addr(i);
     let live = word(t, a);
-    let rctype = word(t, a + 1);
+    let rctype = word(t, a + IPC_TYPE);
     if live == 0 {
         return rctype == 0;
     }
@@ -95,16 +103,18 @@ pub fn ipc_ok(t: &[u32], i: u32) -> bool
 
 // Place 0 is the root; any other file has a DIR as parent and lies one deeper, so that no walk up the tree is needed.
 fn link_ok(t: &[u32], o: u32, kind: u32, parent: u32, depth: u32) -> bool
-    ensures { λ r. ⌜ r ≡ okLink o (kind ∷ parent ∷ depth ∷ []) (block (now (t .entry)) (fileAddr parent) 6) ⌝ }
+    ensures { λ r. ⌜ r ≡ linkOk o (kind ∷ parent ∷ depth ∷ []) (block (now (t .entry)) (fileAddr parent) FILE-WORDS) ⌝ }
 {
-    if o == 0 {
-        return (kind == DIR) & (parent == 0) & (depth == 0);
+    if o == ROOT {
+        return (kind == DIR) & (parent == ROOT) & (depth == 0);
     }
     if parent >= FILES {
         return false;
     }
     let a = file_addr(parent);
-    (word(t, a) == DIR) & ((depth as usize) == (word(t, a + 2) as usize) + 1) & (depth <= DEEPEST)
+    (word(t, a) == DIR)
+        & ((depth as usize) == (word(t, a + (DEPTH as usize)) as usize) + 1)
+        & (depth <= DEEPEST)
 }
 
 // Kind, parent, depth, type, initial, forced.
@@ -113,19 +123,25 @@ pub fn file_ok(t: &[u32], o: u32) -> bool
 {
     let a = file_addr(o);
     let kind = word(t, a);
-    let parent = word(t, a + 1);
-    let depth = word(t, a + 2);
-    let rctype = word(t, a + 3);
-    let initial = word(t, a + 4);
-    let forced = word(t, a + 5);
     if kind == FREE {
-        return (parent == 0) & (depth == 0) & (rctype == 0) & (initial == 0) & (forced == 0);
+        return (word(t, a + (PARENT as usize)) == 0)
+            & (word(t, a + (DEPTH as usize)) == 0)
+            & (word(t, a + (FILE_TYPE as usize)) == 0)
+            & (word(t, a + (INITIAL as usize)) == 0)
+            & (word(t, a + (FORCED as usize)) == 0);
     }
-    (kind <= DIR)
-        & (rctype <= INHERIT_PARENT)
-        & (initial <= USE_FORCED_ROLE)
-        & ((forced <= INHERIT_PARENT) | special_forced(forced))
-        & link_ok(t, o, kind, parent, depth)
+    let ranged = (kind <= DIR)
+        & ok_type(word(t, a + (FILE_TYPE as usize)))
+        & ok_initial(word(t, a + (INITIAL as usize)))
+        & ok_forced(word(t, a + (FORCED as usize)));
+    ranged
+        & link_ok(
+            t,
+            o,
+            kind,
+            word(t, a + (PARENT as usize)),
+            word(t, a + (DEPTH as usize)),
+        )
 }
 
 // Process 0 of fresh tables (rule 1).
@@ -147,7 +163,7 @@ pub fn root_dir() -> File
 {
     File {
         kind: Kind::Dir,
-        parent: 0,
+        parent: ROOT,
         depth: 0,
         rctype: INHERIT_PARENT,
         initial: Initial::InheritParent,

@@ -1,4 +1,5 @@
-// One walk over each table. The verdict is carried along, since a row is well formed nearly always.
+// One walk over each table. Processes and files are tested with branches, and their walks leave at the first that fails; the others carry the
+// verdict along, so that several records are tested at a time.
 use crate::records::file_ok;
 use crate::records::ipc_ok;
 use crate::records::process_ok;
@@ -17,13 +18,14 @@ ghost use Rattle.model.specs.WellFormed.{processOk, userOk, roleOk, ipcOk, file
 pub fn processes_ok(t: &[u32]) -> bool
     ensures { λ r. ⌜ r ≡ allBelow PROCESSES (processOk (now (t .entry))) ⌝ }
 {
-    let mut ok = true;
     let mut k = 0;
     while k < PROCESSES {
-        ok = ok & process_ok(t, k);
+        if !process_ok(t, k) {
+            return false;
+        }
         k += 1;
     }
-    ok
+    true
 }
 
 pub fn users_ok(t: &[u32]) -> bool
@@ -65,11 +67,12 @@ pub fn ipcs_ok(t: &[u32]) -> bool
 pub fn files_ok(t: &[u32]) -> bool
     ensures { λ r. ⌜ r ≡ allBelow FILES (fileOk (now (t .entry))) ⌝ }
 {
-    let mut ok = true;
     let mut k = 0;
     while k < FILES {
-        ok = ok & file_ok(t, k);
+        if !file_ok(t, k) {
+            return false;
+        }
         k += 1;
     }
-    ok
+    true
 }

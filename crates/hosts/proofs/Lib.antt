@@ -1,5 +1,6 @@
 pub mod Walk
 pub mod Elem
 pub mod Record
+pub mod Held
 pub mod Laws
 pub mod Agrees

@@ -1,7 +1,8 @@
 -- What the walks of this crate share: a walk by hand goes through a function's MIR statement by statement. It says nothing of the crate.
---     Data R, of-struct, of-enum       a type of plain data with its laws, in one value
+--     Data R, of-struct, of-enum, truth        a type of plain data with its laws, in one value
 --     starts           a function's locals are allocated, all at once: bs has their addresses
 --     leaves p         they are freed, all at once: local 0 lies last, and the last local at position p of the context. Each is a cell or room
+--     calls-for        a call whose result is plain data: it is known at the value r, of which the contract says φ, and the tokens are back
 --     looks-elem, shuts-elem       element i of a `&κ [T]` is looked at, which takes κ's token, and shut again
 --     alone            nothing is had of a parameter at exit, where the contract says nothing of it there: plain data, a `&T`, a `&[T]`
 --     ends-by, ends-alone          the walk ends, at a result of plain data, with the tokens and what is had of the parameters, or with the tokens alone
@@ -53,17 +54,20 @@ pub use denote.Triple.Table.{entered, cited}
 pub use denote.Triple.Walked.{says, Stays, stay-ref, stay-slice, stay-dropped, walkOf, goes-ref, goes-slice, goes-dropped, ends-at, walked}
 pub use denote.Exit.{yes}
 use Prim.Native.Nat.{suc}
-use mir.Syntax.{Ty, Local, local, Fn}
-use base.Logic.{emp∗, monoL, monoR, assoc′}
+use mir.Syntax.{Ty, Local, local, Fn, Name, Place, Opd as Operand, Body, seq, call}
+use mir.Val.{vbool}
+use base.Logic.{emp∗, monoL, monoR, assoc′, snd∗}
 use base.Fml.{fsep, froom, fdies, fobor, fshr-bor}
 use prog.Wp.{Env, release}
 use contract.Monad.{factI}
 use contract.Lifetimes.{Lfts, Shares, AllOutlive}
-use types.Kit.{Item, mean, nth, del, pull, Goal, Soaks, allocs, frees, aim, Seq, Step, step, use0}
-use types.Run.{alloc1, alloc0}
+use types.Kit.{Item, mean, nth, del, pull, Goal, Soaks, Post, runs, lands, allocs, frees, aim, Seq, Step, step, use0}
+use types.Run.{Opds, alloc1, alloc0}
 use types.Share.{arr-parts}
 use sound.WpLaws.{WpFn-mono}
 use denote.RattleType.{RattleType, Denots, Valss, flat}
+use denote.Builtin.{bool}
+use denote.Plain.{bool-tells, bool-copy, bool-makes}
 use denote.Laws.{Tells, Copy, Makes, Are, Ises, Spells, Tellss, valss}
 use denote.Memory.{shares, cellAt, lone}
 use denote.Index.{others, elem-out, elem-back, looks-slice, shuts-slice}
@@ -84,14 +88,17 @@ pub record Data (R : RattleType) : Type 2 where
   pub val : R .Denot → Val
   pub tells : Tells R (Is R) (λ x. val x ∷ [])
   pub copies : {M : Type 1} (𝓤 : URA M) (H : Heap 𝓤) (A : Atoms 𝓤) (W : Given 𝓤 H A) → Copy 𝓤 H A R
-  pub makes : {M : Type 1} (𝓤 : URA M) (H : Heap 𝓤) (A : Atoms 𝓤) → Makes 𝓤 H A R (Is R)
+  pub makes : {M : Type 1} (𝓤 : URA M) (H : Heap 𝓤) (A : Atoms 𝓤) (W : Given 𝓤 H A) → Makes 𝓤 H A R (Is R)
   pub typed : {M : Type 1} (𝓤 : URA M) (H : Heap 𝓤) (A : Atoms 𝓤) (W : Given 𝓤 H A) (x : R .Denot) → Is R x (val x ∷ []) → Holds (hasTy (lone (R .mir)) (val x)) × WT (val x)
 
 abbrev pub of-struct : (T : SD.Declared) (L : SL.Laws T) → SL.Copyables (T .parts) → Plains (SD.fields T) → Data (SD.row T)
-of-struct T L cs ps = record { val = SL.val T L; tells = SL.tells T L; copies = SL.copy T cs; makes = SL.makes T ps; typed = λ 𝓤 H A W x p. SL.lawful T L 𝓤 H A W .typed x (SL.vals T L x) p .0 }
+of-struct T L cs ps = record { val = SL.val T L; tells = SL.tells T L; copies = SL.copy T cs; makes = λ 𝓤 H A W. SL.makes T ps 𝓤 H A; typed = λ 𝓤 H A W x p. SL.lawful T L 𝓤 H A W .typed x (SL.vals T L x) p .0 }
 
 abbrev pub of-enum : (T : ED.Declared) (L : EL.Laws T) → Few (ED.shape T) → EL.Copyabless (T .parts) → Plainss (ED.variants T) → Data (ED.row T)
-of-enum T L few cs ps = record { val = EL.val T L; tells = EL.tells T L; copies = EL.copy T cs; makes = EL.makes T ps; typed = λ 𝓤 H A W x p. EL.lawful T L 𝓤 H A W few .typed x (EL.vals T L x) p .0 }
+of-enum T L few cs ps = record { val = EL.val T L; tells = EL.tells T L; copies = EL.copy T cs; makes = λ 𝓤 H A W. EL.makes T ps 𝓤 H A; typed = λ 𝓤 H A W x p. EL.lawful T L 𝓤 H A W few .typed x (EL.vals T L x) p .0 }
+
+abbrev pub truth : Data bool
+truth = record { val = vbool; tells = bool-tells; copies = bool-copy; makes = bool-makes; typed = λ 𝓤 H A W x p. (tt, tt) }
 
 -- ---- a function's locals, all at once
 abbrev pub Addrs : List Local → Type 0
@@ -170,6 +177,21 @@ module _ {M : Type 1} {𝓤 : URA M} {H : Heap 𝓤} {A : Atoms 𝓤} {K : Type 
     pub shuts-elem : K → Soaks G → {R : RattleType} (D : Data R) {κ : Lft} {q : Share} (q′ : Share) (ys : List (R .Denot)) (i : ℕ) (d : R .Denot) (b o : ℕ) → i < length ys
         → Step K W (‵ (flft κ q) ∷ Γ) G (‵ (cellAt q′ (R .mir) (D .val (getD ys i d) ∷ []) b (place (mem R .size) o i)) ∷ ‵ (R .own (getD ys i d) (D .val (getD ys i d) ∷ [])) ∷ ‵ (others (shares R) q′ ys i b o) ∷ ‵ (fobor κ q (arr-parts (shares R) (length ys) .part q′ ys b o)) ∷ Γ) G
     shuts-elem t z {R} D q′ ys i d b o l = step (λ s. elem-back t R q′ ys i d (D .val (getD ys i d) ∷ []) b o l $ shuts-slice t z R q′ ys b o $ s)
+
+-- ---- a call that answers plain data
+module _ {M : Type 1} {𝓤 : URA M} {H : Heap 𝓤} {A : Atoms 𝓤} {K : Type 0} {W : Given 𝓤 H A} {Γ : List (Item 𝓤)} {E : Env 𝓤 H} {f : Name} {xs : List Operand} {q : Post 𝓤 H} {d : Place} where
+  pub calls-for : K → (𝓣 : Tables 𝓤 H) {rest : Body} (T : Ended) (c : Clauses 𝓤 T) → Triple 𝓤 (𝓣 .C f) (tripleOf 𝓤 H A (T .signature) (closing 𝓤 H A T c)) → (x : tripleOf 𝓤 H A (T .signature) (closing 𝓤 H A T c) .Ghost)
+      → Opds K W (raw (tripleOf 𝓤 H A (T .signature) (closing 𝓤 H A T c) .pre x) ∷ Γ) E xs (tripleOf 𝓤 H A (T .signature) (closing 𝓤 H A T c) .args x)
+      → (D : Data (typeAt (T .signature .result) (x .0 .0))) (φ : Res (T .signature) (x .0 .0) → Type 0)
+      → ((r : Res (T .signature) (x .0 .0)) (ws : Lasts T (x .0 .0) (x .0 .3)) → ent 𝓤 (c (x .0 .0) (x .0 .3) .ensures (x .1) r (atExit T (x .0 .0) (x .0 .3) ws)) (fact 𝓤 (φ r)))
+      → ((r : Res (T .signature) (x .0 .0)) → φ r → Is (typeAt (T .signature .result) (x .0 .0)) r (D .val r ∷ []) → Seq K W (raw (alive 𝓤 H A (T .signature) (x .0 .0) (x .0 .1)) ∷ Γ) (lands (𝓣 .C) (𝓣 .Λ) E d (D .val r) rest q))
+      → Seq K W (raw (tripleOf 𝓤 H A (T .signature) (closing 𝓤 H A T c) .pre x) ∷ Γ) (runs (𝓣 .C) (𝓣 .Λ) E (seq (call f xs d) rest) q)
+  calls-for t 𝓣 {rest} T c known x os D φ told k =
+      let R : RattleType = typeAt (T .signature .result) (x .0 .0) in
+      calls-at t (fmOf 𝓤 H (W .laws) 𝓣) (tripleOf 𝓤 H A (T .signature) (closing 𝓤 H A T c)) known x os (λ v.
+      use1 W (later (some (λ (r : R .Denot). (raw (alive 𝓤 H A (T .signature) (x .0 .0) (x .0 .1)) ⊛ ‵ (R .own r (v ∷ []))) ⊛ raw (ensured 𝓤 H A T c (x .0 .0) (x .0 .3) (x .1) r)))) (id⊢ 𝓤 _) $ await t tt $ pick t (λ r.
+      split t $ move t (1 ∷ []) $ use1 W (raw (fact 𝓤 (φ r))) (exE 𝓤 _ (λ ws. via 𝓤 _ (snd∗ 𝓤 (sem 𝓤 H A (lasts T (x .0 .0) (x .0 .3) ws)) (c (x .0 .0) (x .0 .3) .ensures (x .1) r (atExit T (x .0 .0) (x .0 .3) ws))) (told r ws))) $ heard t (φ r) (λ e. split t $ move t (1 ∷ []) $ peeks t R (Is R) (shows 𝓤 H A R) r (v ∷ []) (λ is. drop t $
+      subst (λ (u : Val). Seq K W (raw (alive 𝓤 H A (T .signature) (x .0 .0) (x .0 .1)) ∷ Γ) (lands (𝓣 .C) (𝓣 .Λ) E d u rest q)) (sym (ap only (D .tells r _ is))) (k r e (subst (λ (us : List Val). Is R r us) (D .tells r _ is) is))))))
 
 -- ---- a function of whose parameters nothing is said at exit
 module _ {n : ℕ} where

@@ -1,10 +1,18 @@
--- How a call is written as a kind and four numbers: the numbers that a kind takes come first, in the order given here, and the rest are 0.
+-- How a call is written as a kind and some numbers: the numbers that a kind takes come first, in the order given here, and the rest are 0.
 -- Whatever else is written, a kind that is not among these or a number that is not taken and not 0, is unknown.
 -- Assumes nothing.
 use Prim.Native.Nat.{ℕ}
-use mathlib.Core.Bool.{Bool, cond, _&&_, _||_}
-use lib.Dec.{leb, eqb}
+use mathlib.Core.Bool.{Bool, cond, _||_}
+use mathlib.Core.List.{List}
+use lib.Dec.{ltb, eqb}
+use Rattle.sets.specs.Below.{allBelow}
 use Rattle.model.specs.declared.Call.{Call}
+use Rattle.model.specs.declared.Change.{Change}
+use Rattle.model.specs.Numbers.{_unless_, _▹_}
+use Rattle.model.specs.Words.{_!_}
+use Rattle.model.specs.WellFormed.{wellFormed}
+use Rattle.model.specs.Outcome.{Outcome, decide}
+use Rattle.model.specs.Step.{step}
 use Rattle.kinds.specs.declared.Decoded.{Decoded}
 
 abbrev pub CALL-ACCESS : ℕ
@@ -70,37 +78,49 @@ CALL-ADD-RIGHT = 20
 abbrev pub CALL-REMOVE-RIGHT : ℕ
 CALL-REMOVE-RIGHT = 21
 
--- the call, where all numbers but the first n are 0
-unfoldable pub takes : ℕ → ℕ → ℕ → ℕ → ℕ → Call → Decoded
-takes n a b c d call =
-    cond ((leb 1 n || eqb a 0) && (leb 2 n || eqb b 0) && (leb 3 n || eqb c 0) && (leb 4 n || eqb d 0)) (Decoded.Known call) Decoded.Unknown
+-- how many numbers can be written beside a kind and a caller
+abbrev pub NUMBERS : ℕ
+NUMBERS = 5
+
+-- the call, where all numbers but the first `count` are 0
+unfoldable pub takes : ℕ → List ℕ → Call → Decoded
+takes count n call = cond (allBelow NUMBERS (λ i. ltb i count || eqb (n ! i) 0)) (Decoded.Known call) Decoded.Unknown
 
 infixr 20 _⇒_∣_
 -- the first where the test holds, or else the rest
 abbrev pub _⇒_∣_ : Bool → Decoded → Decoded → Decoded
 ok ⇒ x ∣ rest = cond ok x rest
 
-unfoldable pub decodeOf : ℕ → ℕ → ℕ → ℕ → ℕ → Decoded
-decodeOf kind a b c d =
-    eqb kind CALL-ACCESS ⇒ takes 3 a b c d (Call.Access a b c) ∣
-    eqb kind CALL-CLONE ⇒ takes 0 a b c d Call.Clone ∣
-    eqb kind CALL-EXIT ⇒ takes 0 a b c d Call.Exit ∣
-    eqb kind CALL-EXECUTE ⇒ takes 1 a b c d (Call.Execute a) ∣
-    eqb kind CALL-CHANGE-OWNER ⇒ takes 1 a b c d (Call.ChangeOwner a) ∣
-    eqb kind CALL-CHANGE-ROLE ⇒ takes 1 a b c d (Call.ChangeRole a) ∣
-    eqb kind CALL-CREATE ⇒ takes 2 a b c d (Call.Create a b) ∣
-    eqb kind CALL-DELETE ⇒ takes 1 a b c d (Call.Delete a) ∣
-    eqb kind CALL-CREATE-IPC ⇒ takes 0 a b c d Call.CreateIpc ∣
-    eqb kind CALL-DELETE-IPC ⇒ takes 1 a b c d (Call.DeleteIpc a) ∣
-    eqb kind CALL-ADD-ROLE ⇒ takes 3 a b c d (Call.AddRole a b c) ∣
-    eqb kind CALL-REMOVE-ROLE ⇒ takes 3 a b c d (Call.RemoveRole a b c) ∣
-    eqb kind CALL-SET-USER-ROLE ⇒ takes 2 a b c d (Call.SetUserRole a b) ∣
-    eqb kind CALL-SET-INITIAL ⇒ takes 2 a b c d (Call.SetInitial a b) ∣
-    eqb kind CALL-SET-FORCED ⇒ takes 2 a b c d (Call.SetForced a b) ∣
-    eqb kind CALL-SET-PROCESS-FORCED ⇒ takes 2 a b c d (Call.SetProcessForced a b) ∣
-    eqb kind CALL-SET-DEFAULT-TYPE ⇒ takes 3 a b c d (Call.SetDefaultType a b c) ∣
-    eqb kind CALL-SET-ROLE-ADMIN ⇒ takes 2 a b c d (Call.SetRoleAdmin a b) ∣
-    eqb kind CALL-SET-TYPE ⇒ takes 3 a b c d (Call.SetType a b c) ∣
-    eqb kind CALL-ADD-RIGHT ⇒ takes 4 a b c d (Call.AddRight a b c d) ∣
-    eqb kind CALL-REMOVE-RIGHT ⇒ takes 4 a b c d (Call.RemoveRight a b c d) ∣
+unfoldable pub decodeOf : ℕ → List ℕ → Decoded
+decodeOf kind n =
+    eqb kind CALL-ACCESS ⇒ takes 3 n (Call.Access (n ! 0) (n ! 1) (n ! 2)) ∣
+    eqb kind CALL-CLONE ⇒ takes 0 n Call.Clone ∣
+    eqb kind CALL-EXIT ⇒ takes 0 n Call.Exit ∣
+    eqb kind CALL-EXECUTE ⇒ takes 1 n (Call.Execute (n ! 0)) ∣
+    eqb kind CALL-CHANGE-OWNER ⇒ takes 1 n (Call.ChangeOwner (n ! 0)) ∣
+    eqb kind CALL-CHANGE-ROLE ⇒ takes 1 n (Call.ChangeRole (n ! 0)) ∣
+    eqb kind CALL-CREATE ⇒ takes 2 n (Call.Create (n ! 0) (n ! 1)) ∣
+    eqb kind CALL-DELETE ⇒ takes 1 n (Call.Delete (n ! 0)) ∣
+    eqb kind CALL-CREATE-IPC ⇒ takes 0 n Call.CreateIpc ∣
+    eqb kind CALL-DELETE-IPC ⇒ takes 1 n (Call.DeleteIpc (n ! 0)) ∣
+    eqb kind CALL-ADD-ROLE ⇒ takes 3 n (Call.Administer (Change.AddRole (n ! 0) (n ! 1) (n ! 2))) ∣
+    eqb kind CALL-REMOVE-ROLE ⇒ takes 3 n (Call.Administer (Change.RemoveRole (n ! 0) (n ! 1) (n ! 2))) ∣
+    eqb kind CALL-SET-USER-ROLE ⇒ takes 2 n (Call.Administer (Change.SetUserRole (n ! 0) (n ! 1))) ∣
+    eqb kind CALL-SET-INITIAL ⇒ takes 2 n (Call.Administer (Change.SetInitial (n ! 0) (n ! 1))) ∣
+    eqb kind CALL-SET-FORCED ⇒ takes 2 n (Call.Administer (Change.SetForced (n ! 0) (n ! 1))) ∣
+    eqb kind CALL-SET-PROCESS-FORCED ⇒ takes 2 n (Call.Administer (Change.SetProcessForced (n ! 0) (n ! 1))) ∣
+    eqb kind CALL-SET-DEFAULT-TYPE ⇒ takes 3 n (Call.Administer (Change.SetDefaultType (n ! 0) (n ! 1) (n ! 2))) ∣
+    eqb kind CALL-SET-ROLE-ADMIN ⇒ takes 2 n (Call.Administer (Change.SetRoleAdmin (n ! 0) (n ! 1))) ∣
+    eqb kind CALL-SET-TYPE ⇒ takes 3 n (Call.Administer (Change.SetType (n ! 0) (n ! 1) (n ! 2))) ∣
+    eqb kind CALL-ADD-RIGHT ⇒ takes 4 n (Call.Administer (Change.AddRight (n ! 0) (n ! 1) (n ! 2) (n ! 3))) ∣
+    eqb kind CALL-REMOVE-RIGHT ⇒ takes 4 n (Call.Administer (Change.RemoveRight (n ! 0) (n ! 1) (n ! 2) (n ! 3))) ∣
     Decoded.Unknown
+
+-- what is no call is 2, on tables that are well formed; a call is done as it is by any other way in
+abbrev pub written : List ℕ → ℕ → Decoded → Outcome
+written t caller Decoded.Unknown = decide t (1 unless wellFormed t ▹ 2) 0 t
+written t caller (Decoded.Known call) = step t caller call
+
+-- a call by its kind and its numbers, on any row
+unfoldable pub stepByKind : List ℕ → ℕ → ℕ → List ℕ → Outcome
+stepByKind t kind caller n = written t caller (decodeOf kind n)

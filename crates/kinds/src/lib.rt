@@ -1,15 +1,27 @@
-// How a call is written as a kind and four numbers, for C and for batches.
+// How a call is written as a kind and some numbers, for C and for batches, and the one entry for calls that are written so.
+use formed::well_formed;
 use made::access;
 use made::add_right;
 use made::add_role;
+use made::create;
 use made::remove_right;
 use made::remove_role;
 use made::set_default_type;
+use made::set_forced;
+use made::set_initial;
 use made::set_process_forced;
+use made::set_role_admin;
 use made::set_type;
+use made::set_user_role;
+use model::Answer;
 use model::Call;
+use monitor::step;
+use rules::refusal::first;
+use rules::refusal::refusal;
+use rules::refusal::unless;
 ghost use mathlib.Core.Path.{_≡_};
-ghost use Rattle.kinds.specs.Kinds.{takes as takesOf, decodeOf};
+ghost use Rattle.model.specs.Outcome.{outcome};
+ghost use Rattle.kinds.specs.Kinds.{takes as takesOf, decodeOf, stepByKind};
 
 mod made;
 
@@ -56,20 +68,24 @@ pub const CALL_ADD_RIGHT: u32 = 20;
 
 pub const CALL_REMOVE_RIGHT: u32 = 21;
 
+// How many numbers can be written beside a kind and a caller.
+pub const NUMBERS: usize = 5;
+
 // What was written: a call, or nothing that is one.
 pub enum Decoded {
     Unknown,
     Known(Call),
 }
 
-// The call, where all numbers but the first n are 0.
-fn takes(n: u32, a: u32, b: u32, c: u32, d: u32, call: Call) -> Decoded
-    ensures { λ r. ⌜ r ≡ takesOf n a b c d call ⌝ }
+// The call, where all numbers but the first `count` are 0.
+fn takes(count: u32, n: [u32; 5], call: Call) -> Decoded
+    ensures { λ r. ⌜ r ≡ takesOf count n call ⌝ }
 {
-    if ((1 <= n) | (a == 0))
-        & ((2 <= n) | (b == 0))
-        & ((3 <= n) | (c == 0))
-        & ((4 <= n) | (d == 0))
+    if ((0 < count) | (n[0] == 0))
+        & ((1 < count) | (n[1] == 0))
+        & ((2 < count) | (n[2] == 0))
+        & ((3 < count) | (n[3] == 0))
+        & ((4 < count) | (n[4] == 0))
     {
         Decoded::Known(call)
     } else {
@@ -78,31 +94,41 @@ fn takes(n: u32, a: u32, b: u32, c: u32, d: u32, call: Call) -> Decoded
 }
 
 // The call of that kind on those numbers.
-pub fn decode(kind: u32, a: u32, b: u32, c: u32, d: u32) -> Decoded
-    ensures { λ r. ⌜ r ≡ decodeOf kind a b c d ⌝ }
+pub fn decode(kind: u32, n: [u32; 5]) -> Decoded
+    ensures { λ r. ⌜ r ≡ decodeOf kind n ⌝ }
 {
     match kind {
-        CALL_ACCESS => takes(3, a, b, c, d, access(a, b, c)),
-        CALL_CLONE => takes(0, a, b, c, d, Call::Clone),
-        CALL_EXIT => takes(0, a, b, c, d, Call::Exit),
-        CALL_EXECUTE => takes(1, a, b, c, d, Call::Execute { file: a }),
-        CALL_CHANGE_OWNER => takes(1, a, b, c, d, Call::ChangeOwner { user: a }),
-        CALL_CHANGE_ROLE => takes(1, a, b, c, d, Call::ChangeRole { role: a }),
-        CALL_CREATE => takes(2, a, b, c, d, Call::Create { kind: a, parent: b }),
-        CALL_DELETE => takes(1, a, b, c, d, Call::Delete { file: a }),
-        CALL_CREATE_IPC => takes(0, a, b, c, d, Call::CreateIpc),
-        CALL_DELETE_IPC => takes(1, a, b, c, d, Call::DeleteIpc { object: a }),
-        CALL_ADD_ROLE => takes(3, a, b, c, d, add_role(a, b, c)),
-        CALL_REMOVE_ROLE => takes(3, a, b, c, d, remove_role(a, b, c)),
-        CALL_SET_USER_ROLE => takes(2, a, b, c, d, Call::SetUserRole { user: a, role: b }),
-        CALL_SET_INITIAL => takes(2, a, b, c, d, Call::SetInitial { file: a, value: b }),
-        CALL_SET_FORCED => takes(2, a, b, c, d, Call::SetForced { file: a, value: b }),
-        CALL_SET_PROCESS_FORCED => takes(2, a, b, c, d, set_process_forced(a, b)),
-        CALL_SET_DEFAULT_TYPE => takes(3, a, b, c, d, set_default_type(a, b, c)),
-        CALL_SET_ROLE_ADMIN => takes(2, a, b, c, d, Call::SetRoleAdmin { role: a, mark: b }),
-        CALL_SET_TYPE => takes(3, a, b, c, d, set_type(a, b, c)),
-        CALL_ADD_RIGHT => takes(4, a, b, c, d, add_right(a, b, c, d)),
-        CALL_REMOVE_RIGHT => takes(4, a, b, c, d, remove_right(a, b, c, d)),
+        CALL_ACCESS => takes(3, n, access(n[0], n[1], n[2])),
+        CALL_CLONE => takes(0, n, Call::Clone),
+        CALL_EXIT => takes(0, n, Call::Exit),
+        CALL_EXECUTE => takes(1, n, Call::Execute { file: n[0] }),
+        CALL_CHANGE_OWNER => takes(1, n, Call::ChangeOwner { user: n[0] }),
+        CALL_CHANGE_ROLE => takes(1, n, Call::ChangeRole { role: n[0] }),
+        CALL_CREATE => takes(2, n, create(n[0], n[1])),
+        CALL_DELETE => takes(1, n, Call::Delete { file: n[0] }),
+        CALL_CREATE_IPC => takes(0, n, Call::CreateIpc),
+        CALL_DELETE_IPC => takes(1, n, Call::DeleteIpc { object: n[0] }),
+        CALL_ADD_ROLE => takes(3, n, add_role(n[0], n[1], n[2])),
+        CALL_REMOVE_ROLE => takes(3, n, remove_role(n[0], n[1], n[2])),
+        CALL_SET_USER_ROLE => takes(2, n, set_user_role(n[0], n[1])),
+        CALL_SET_INITIAL => takes(2, n, set_initial(n[0], n[1])),
+        CALL_SET_FORCED => takes(2, n, set_forced(n[0], n[1])),
+        CALL_SET_PROCESS_FORCED => takes(2, n, set_process_forced(n[0], n[1])),
+        CALL_SET_DEFAULT_TYPE => takes(3, n, set_default_type(n[0], n[1], n[2])),
+        CALL_SET_ROLE_ADMIN => takes(2, n, set_role_admin(n[0], n[1])),
+        CALL_SET_TYPE => takes(3, n, set_type(n[0], n[1], n[2])),
+        CALL_ADD_RIGHT => takes(4, n, add_right(n[0], n[1], n[2], n[3])),
+        CALL_REMOVE_RIGHT => takes(4, n, remove_right(n[0], n[1], n[2], n[3])),
         _ => Decoded::Unknown,
+    }
+}
+
+// A call of a process by its kind and its numbers, through the one entry; what is no call is refused with 1 or 2.
+pub fn step_by_kind(t: &mut [u32], kind: u32, caller: u32, n: [u32; 5]) -> Answer
+    ensures { λ r. ⌜ outcome r (now (t .exit)) ≡ stepByKind (now (t .entry)) kind caller n ⌝ }
+{
+    match decode(kind, n) {
+        Decoded::Unknown => refusal(first(unless(1, well_formed(t)), 2)),
+        Decoded::Known(call) => step(t, caller, call),
     }
 }

@@ -1,5 +1,6 @@
-// The calls that have many numbers, each made of them in their order.
+// The calls that have several numbers, and the changes of administration, each made of its numbers in their order.
 use model::Call;
+use model::Change;
 ghost use mathlib.Core.Path.{_≡_};
 
 pub fn access(group: u32, object: u32, right: u32) -> Call
@@ -12,58 +13,99 @@ pub fn access(group: u32, object: u32, right: u32) -> Call
     }
 }
 
-pub fn add_role(set: u32, role: u32, member: u32) -> Call
-    ensures { λ r. ⌜ r ≡ Call.AddRole set role member ⌝ }
+pub fn create(kind: u32, parent: u32) -> Call
+    ensures { λ r. ⌜ r ≡ Call.Create kind parent ⌝ }
 {
-    Call::AddRole { set, role, member }
+    Call::Create { kind, parent }
+}
+
+pub fn add_role(set: u32, role: u32, member: u32) -> Call
+    ensures { λ r. ⌜ r ≡ Call.Administer (Change.AddRole set role member) ⌝ }
+{
+    let change = Change::AddRole { set, role, member };
+    Call::Administer { change }
 }
 
 pub fn remove_role(set: u32, role: u32, member: u32) -> Call
-    ensures { λ r. ⌜ r ≡ Call.RemoveRole set role member ⌝ }
+    ensures { λ r. ⌜ r ≡ Call.Administer (Change.RemoveRole set role member) ⌝ }
 {
-    Call::RemoveRole { set, role, member }
+    let change = Change::RemoveRole { set, role, member };
+    Call::Administer { change }
+}
+
+pub fn set_user_role(user: u32, role: u32) -> Call
+    ensures { λ r. ⌜ r ≡ Call.Administer (Change.SetUserRole user role) ⌝ }
+{
+    let change = Change::SetUserRole { user, role };
+    Call::Administer { change }
+}
+
+pub fn set_initial(file: u32, value: u32) -> Call
+    ensures { λ r. ⌜ r ≡ Call.Administer (Change.SetInitial file value) ⌝ }
+{
+    let change = Change::SetInitial { file, value };
+    Call::Administer { change }
+}
+
+pub fn set_forced(file: u32, value: u32) -> Call
+    ensures { λ r. ⌜ r ≡ Call.Administer (Change.SetForced file value) ⌝ }
+{
+    let change = Change::SetForced { file, value };
+    Call::Administer { change }
 }
 
 pub fn set_process_forced(process: u32, value: u32) -> Call
-    ensures { λ r. ⌜ r ≡ Call.SetProcessForced process value ⌝ }
+    ensures { λ r. ⌜ r ≡ Call.Administer (Change.SetProcessForced process value) ⌝ }
 {
-    Call::SetProcessForced { process, value }
+    let change = Change::SetProcessForced { process, value };
+    Call::Administer { change }
 }
 
 pub fn set_default_type(which: u32, role: u32, value: u32) -> Call
-    ensures { λ r. ⌜ r ≡ Call.SetDefaultType which role value ⌝ }
+    ensures { λ r. ⌜ r ≡ Call.Administer (Change.SetDefaultType which role value) ⌝ }
 {
-    Call::SetDefaultType { which, role, value }
+    let change = Change::SetDefaultType { which, role, value };
+    Call::Administer { change }
+}
+
+pub fn set_role_admin(role: u32, mark: u32) -> Call
+    ensures { λ r. ⌜ r ≡ Call.Administer (Change.SetRoleAdmin role mark) ⌝ }
+{
+    let change = Change::SetRoleAdmin { role, mark };
+    Call::Administer { change }
 }
 
 pub fn set_type(group: u32, object: u32, value: u32) -> Call
-    ensures { λ r. ⌜ r ≡ Call.SetType group object value ⌝ }
+    ensures { λ r. ⌜ r ≡ Call.Administer (Change.SetType group object value) ⌝ }
 {
-    Call::SetType {
+    let change = Change::SetType {
         group,
         object,
         value,
-    }
+    };
+    Call::Administer { change }
 }
 
 pub fn add_right(group: u32, role: u32, rctype: u32, right: u32) -> Call
-    ensures { λ r. ⌜ r ≡ Call.AddRight group role rctype right ⌝ }
+    ensures { λ r. ⌜ r ≡ Call.Administer (Change.AddRight group role rctype right) ⌝ }
 {
-    Call::AddRight {
+    let change = Change::AddRight {
         group,
         role,
         rctype,
         right,
-    }
+    };
+    Call::Administer { change }
 }
 
 pub fn remove_right(group: u32, role: u32, rctype: u32, right: u32) -> Call
-    ensures { λ r. ⌜ r ≡ Call.RemoveRight group role rctype right ⌝ }
+    ensures { λ r. ⌜ r ≡ Call.Administer (Change.RemoveRight group role rctype right) ⌝ }
 {
-    Call::RemoveRight {
+    let change = Change::RemoveRight {
         group,
         role,
         rctype,
         right,
-    }
+    };
+    Call::Administer { change }
 }

@@ -1,4 +1,5 @@
 pub mod Words
+pub mod Decided
 pub mod Granted
 pub mod Records
 pub mod Formed
@@ -7,3 +8,4 @@ pub mod Transitions
 pub mod Places
 pub mod Kept
 pub mod Created
+pub mod FreshFormed

@@ -18,12 +18,13 @@ use Rattle.model.specs.declared.Role.{Role}
 use Rattle.model.specs.declared.Process.{Process}
 use Rattle.model.specs.declared.File.{File}
 use Rattle.model.specs.declared.Ipc.{Ipc}
-use Rattle.model.specs.Numbers.{FILESYSTEM, PROCESS, IPC, PROCESSES, FILES, IPCS, ROLES, USERS, TYPES, FREE, DIR, DEEPEST, INHERIT-PARENT}
+use Rattle.model.specs.Numbers.{FILESYSTEM, PROCESS, IPC, PROCESSES, FILES, IPCS, ROLES, USERS, TYPES, FREE, DIR, DEEPEST, INHERIT-PARENT, FIRST-PROCESS, GROUPS, ROOT}
+use Rattle.model.specs.Layout.{processAddr, userAddr, roleAddr, ipcAddr, fileAddr, rightsAddr, DEPTH, FILE-WORDS, IPC-WORDS, KIND, PARENT, PROCESS-WORDS, ROLE-WORDS, FILE-TYPE, IPC-TYPE, RIGHTS-AT}
+use Rattle.model.specs.Ranges.{okProcessForced, okDefault}
 use Rattle.model.specs.Words.{_!_, block}
-use Rattle.model.specs.Records.{kindWord, processAddr, userAddr, roleAddr, ipcAddr, fileAddr, rightsAddr, processWords, putProcess, freeProcess, putFile, freeFile, fileWord, ipcWords, putIpc, occupied}
-use Rattle.model.specs.WellFormed.{okProcess, okIpc, okProcessForced, processOk, userOk, roleOk, ipcOk, fileOk}
+use Rattle.model.specs.Records.{kindWord, processWords, putProcess, freeProcess, putFile, freeFile, fileWord, ipcWords, putIpc, occupied}
+use Rattle.model.specs.WellFormed.{processWordsOk, ipcWordsOk, processOk, userOk, roleOk, ipcOk, fileOk}
 use Rattle.model.specs.Transitions.{created}
-use Rattle.model.specs.Administration.{okDefault}
 use Rattle.model.proofs.Words.{word-set-same, word-set-other}
 use Rattle.model.proofs.Records.{Clear, Written, set-written, process-written, file-written, ipc-written, block-stays, file-word-stays, occupied-stays, process-block, file-block, file-block-word, ipc-block, file-word-set, process-first, ipc-first, file-first, file-occupied, process-put-occupied}
 use Rattle.model.proofs.Formed.{WellFormed, Live, Defaults, okValue, Used, Barren, used-file, used-ok, file-same, parent-dir, dir-occupied, free-barren}
@@ -31,29 +32,29 @@ use Rattle.model.proofs.Formed.{WellFormed, Live, Defaults, okValue, Us
 -- ---- a write and the tables
 
 module _ {t u : List ℕ} {a n : ℕ} (x : Written t u a n) where
-  process-ok-stays : (p : ℕ) → Clear (processAddr p) 5 a n → processOk u p ≡ processOk t p
+  process-ok-stays : (p : ℕ) → Clear (processAddr p) PROCESS-WORDS a n → processOk u p ≡ processOk t p
   unfolding processOk
-  process-ok-stays p c = rw (block-stays x (processAddr p) 5 c)
+  process-ok-stays p c = rw (block-stays x (processAddr p) PROCESS-WORDS c)
 
   user-ok-stays : (i : ℕ) → Clear (userAddr i) 1 a n → userOk u i ≡ userOk t i
   unfolding userOk
   user-ok-stays i c = rw (x .other (userAddr i) c)
 
-  role-ok-stays : (r : ℕ) → Clear (roleAddr r) 9 a n → roleOk u r ≡ roleOk t r
+  role-ok-stays : (r : ℕ) → Clear (roleAddr r) ROLE-WORDS a n → roleOk u r ≡ roleOk t r
   unfolding roleOk
-  role-ok-stays r c = rw (block-stays x (roleAddr r) 9 c)
+  role-ok-stays r c = rw (block-stays x (roleAddr r) ROLE-WORDS c)
 
-  ipc-ok-stays : (i : ℕ) → Clear (ipcAddr i) 2 a n → ipcOk u i ≡ ipcOk t i
+  ipc-ok-stays : (i : ℕ) → Clear (ipcAddr i) IPC-WORDS a n → ipcOk u i ≡ ipcOk t i
   unfolding ipcOk
-  ipc-ok-stays i c = rw (block-stays x (ipcAddr i) 2 c)
+  ipc-ok-stays i c = rw (block-stays x (ipcAddr i) IPC-WORDS c)
 
   -- each table lies clear of the write, or passes
   pub row-kept : WellFormed t
-      → Clear (processAddr 0) (PROCESSES * 5) a n ⊎ (((p : ℕ) → p < PROCESSES → processOk u p ≡ true) × (occupied u PROCESS 0 ≡ true))
+      → Clear (processAddr 0) (PROCESSES * PROCESS-WORDS) a n ⊎ (((p : ℕ) → p < PROCESSES → processOk u p ≡ true) × (occupied u PROCESS FIRST-PROCESS ≡ true))
       → Clear (userAddr 0) USERS a n ⊎ ((i : ℕ) → i < USERS → userOk u i ≡ true)
-      → Clear (roleAddr 0) (ROLES * 9) a n ⊎ ((r : ℕ) → r < ROLES → roleOk u r ≡ true)
-      → Clear (ipcAddr 0) (IPCS * 2) a n ⊎ ((i : ℕ) → i < IPCS → ipcOk u i ≡ true)
-      → Clear (fileAddr 0) (FILES * 6) a n ⊎ (((o : ℕ) → o < FILES → fileOk u o ≡ true) × (occupied u FILESYSTEM 0 ≡ true)) → WellFormed u
+      → Clear (roleAddr 0) (ROLES * ROLE-WORDS) a n ⊎ ((r : ℕ) → r < ROLES → roleOk u r ≡ true)
+      → Clear (ipcAddr 0) (IPCS * IPC-WORDS) a n ⊎ ((i : ℕ) → i < IPCS → ipcOk u i ≡ true)
+      → Clear (fileAddr 0) (FILES * FILE-WORDS) a n ⊎ (((o : ℕ) → o < FILES → fileOk u o ≡ true) × (occupied u FILESYSTEM ROOT ≡ true)) → WellFormed u
   row-kept w processes users roles ipcs files =
       record {
         sized = x .sized ∙ w .sized;
@@ -65,23 +66,23 @@ module _ {t u : List ℕ} {a n : ℕ} (x : Written t u a n) where
             (λ c.
             let y = parent-dir t w o l .0 in
             file-same t u o (λ k m. file-word-stays x o k (λ p q. c (omega arith) (omega arith)))
-            (file-word-stays x (fileWord t o 1) 0 (λ p q. c (omega arith) (omega arith)))
-            (file-word-stays x (fileWord t o 1) 2 (λ p q. c (omega arith) (omega arith)))
+            (file-word-stays x (fileWord t o PARENT) KIND (λ p q. c (omega arith) (omega arith)))
+            (file-word-stays x (fileWord t o PARENT) DEPTH (λ p q. c (omega arith) (omega arith)))
             ∙ w .files o l)
             (λ h. h .0 o l) files;
-        first = ⊎-elim (λ c. occupied-stays x PROCESS 0 (λ y z. c (omega arith) (omega arith)) ∙ w .first) (λ h. h .1) processes;
-        root = ⊎-elim (λ c. occupied-stays x FILESYSTEM 0 (λ y z. c (omega arith) (omega arith)) ∙ w .root) (λ h. h .1) files;
+        first = ⊎-elim (λ c. occupied-stays x PROCESS FIRST-PROCESS (λ y z. c (omega arith) (omega arith)) ∙ w .first) (λ h. h .1) processes;
+        root = ⊎-elim (λ c. occupied-stays x FILESYSTEM ROOT (λ y z. c (omega arith) (omega arith)) ∙ w .root) (λ h. h .1) files;
       }
 
   -- ---- a write within one place, by its table
 
-  pub process-place-kept : (p : ℕ) → WellFormed t → p < PROCESSES → processAddr p ≤ a → a + n ≤ processAddr p + 5
-      → processOk u p ≡ true → (p ≡ 0 → occupied u PROCESS p ≡ true) → WellFormed u
+  pub process-place-kept : (p : ℕ) → WellFormed t → p < PROCESSES → processAddr p ≤ a → a + n ≤ processAddr p + PROCESS-WORDS
+      → processOk u p ≡ true → (p ≡ FIRST-PROCESS → occupied u PROCESS p ≡ true) → WellFormed u
   process-place-kept p w l from to ok first =
       row-kept w
       (inr (
         λ q m. elim (ℕ-discrete q p) [ yes s ↦ rw s ok | no d ↦ process-ok-stays q (omega arith) ∙ w .processes q m ],
-        elim (ℕ-discrete p 0) [ yes s ↦ rw s at (first s) | no d ↦ occupied-stays x PROCESS 0 (omega arith) ∙ w .first ],
+        elim (ℕ-discrete p FIRST-PROCESS) [ yes s ↦ rw s at (first s) | no d ↦ occupied-stays x PROCESS FIRST-PROCESS (omega arith) ∙ w .first ],
       ))
       (inl (omega arith)) (inl (omega arith)) (inl (omega arith)) (inl (omega arith))
 
@@ -91,59 +92,59 @@ module _ {t u : List ℕ} {a n : ℕ} (x : Written t u a n) where
       (inr (λ q m. elim (ℕ-discrete q i) [ yes s ↦ rw s ok | no d ↦ user-ok-stays q (omega arith) ∙ w .users q m ]))
       (inl (omega arith)) (inl (omega arith)) (inl (omega arith))
 
-  pub role-place-kept : (r : ℕ) → WellFormed t → r < ROLES → roleAddr r ≤ a → a + n ≤ roleAddr r + 9 → roleOk u r ≡ true → WellFormed u
+  pub role-place-kept : (r : ℕ) → WellFormed t → r < ROLES → roleAddr r ≤ a → a + n ≤ roleAddr r + ROLE-WORDS → roleOk u r ≡ true → WellFormed u
   role-place-kept r w l from to ok =
       row-kept w (inl (omega arith)) (inl (omega arith))
       (inr (λ q m. elim (ℕ-discrete q r) [ yes s ↦ rw s ok | no d ↦ role-ok-stays q (omega arith) ∙ w .roles q m ]))
       (inl (omega arith)) (inl (omega arith))
 
-  pub ipc-place-kept : (i : ℕ) → WellFormed t → i < IPCS → ipcAddr i ≤ a → a + n ≤ ipcAddr i + 2 → ipcOk u i ≡ true → WellFormed u
+  pub ipc-place-kept : (i : ℕ) → WellFormed t → i < IPCS → ipcAddr i ≤ a → a + n ≤ ipcAddr i + IPC-WORDS → ipcOk u i ≡ true → WellFormed u
   ipc-place-kept i w l from to ok =
       row-kept w (inl (omega arith)) (inl (omega arith)) (inl (omega arith))
       (inr (λ q m. elim (ℕ-discrete q i) [ yes s ↦ rw s ok | no d ↦ ipc-ok-stays q (omega arith) ∙ w .ipcs q m ]))
       (inl (omega arith))
 
-  pub right-place-kept : WellFormed t → rightsAddr 0 0 0 ≤ a → WellFormed u
-  right-place-kept w from = row-kept w (inl (omega arith)) (inl (omega arith)) (inl (omega arith)) (inl (omega arith)) (inl (omega arith))
+  pub right-place-kept : WellFormed t → RIGHTS-AT ≤ a → a + n ≤ RIGHTS-AT + GROUPS * (ROLES * TYPES) → WellFormed u
+  right-place-kept w from to = row-kept w (inl (omega arith)) (inl (omega arith)) (inl (omega arith)) (inl (omega arith)) (inl (omega arith))
 
   -- a file place whose kind and depth stay, or that no place names as its parent
-  pub file-place-kept : (o : ℕ) → WellFormed t → o < FILES → fileAddr o ≤ a → a + n ≤ fileAddr o + 6
-      → ((fileWord u o 0 ≡ fileWord t o 0) × (fileWord u o 2 ≡ fileWord t o 2)) ⊎ ((o ≢ 0) × Barren t o)
+  pub file-place-kept : (o : ℕ) → WellFormed t → o < FILES → fileAddr o ≤ a → a + n ≤ fileAddr o + FILE-WORDS
+      → ((fileWord u o KIND ≡ fileWord t o KIND) × (fileWord u o DEPTH ≡ fileWord t o DEPTH)) ⊎ ((o ≢ ROOT) × Barren t o)
       → fileOk u o ≡ true → WellFormed u
   file-place-kept o w l from to link ok =
       row-kept w (inl (omega arith)) (inl (omega arith)) (inl (omega arith)) (inl (omega arith))
       (inr (λ q m. elim (ℕ-discrete q o) [ yes s ↦ rw s ok | no d ↦ other q m d ∙ w .files q m ], root))
     where
-      word : (q k : ℕ) → q ≢ o → k < 6 → fileWord u q k ≡ fileWord t q k
+      word : (q k : ℕ) → q ≢ o → k < FILE-WORDS → fileWord u q k ≡ fileWord t q k
       word q k d m = file-word-stays x q k (omega arith)
 
       -- of the parent of q
-      named : (q : ℕ) → q < FILES → (k : ℕ) → k < 6
-          → ((fileWord u o 0 ≡ fileWord t o 0) × (fileWord u o 2 ≡ fileWord t o 2) → fileWord u o k ≡ fileWord t o k)
-          → fileWord u (fileWord t q 1) k ≡ fileWord t (fileWord t q 1) k
+      named : (q : ℕ) → q < FILES → (k : ℕ) → k < FILE-WORDS
+          → ((fileWord u o KIND ≡ fileWord t o KIND) × (fileWord u o DEPTH ≡ fileWord t o DEPTH) → fileWord u o k ≡ fileWord t o k)
+          → fileWord u (fileWord t q PARENT) k ≡ fileWord t (fileWord t q PARENT) k
       named q m k j same =
-          elim (ℕ-discrete (fileWord t q 1) o) [
+          elim (ℕ-discrete (fileWord t q PARENT) o) [
             | yes s ↦ rw s (⊎-elim same (λ b. absurd (b .1 q m s)) link)
-            | no d ↦ word (fileWord t q 1) k d j
+            | no d ↦ word (fileWord t q PARENT) k d j
           ]
 
       other : (q : ℕ) → q < FILES → q ≢ o → fileOk u q ≡ fileOk t q
-      other q m d = file-same t u q (λ k j. word q k d j) (named q m 0 (omega arith) (λ h. h .0)) (named q m 2 (omega arith) (λ h. h .1))
+      other q m d = file-same t u q (λ k j. word q k d j) (named q m KIND (omega arith) (λ h. h .0)) (named q m DEPTH (omega arith) (λ h. h .1))
 
       -- the kind of the root stays, in either case
-      kind : fileWord u 0 0 ≡ fileWord t 0 0
+      kind : fileWord u ROOT KIND ≡ fileWord t ROOT KIND
       kind =
-          elim (ℕ-discrete o 0) [
+          elim (ℕ-discrete o ROOT) [
             | yes s ↦ ⊎-elim (λ h. rw s at (h .0)) (λ h. absurd (h .0 s)) link
-            | no d ↦ word 0 0 (λ e. d (sym e)) (omega arith)
+            | no d ↦ word ROOT KIND (λ e. d (sym e)) (omega arith)
           ]
 
-      root : occupied u FILESYSTEM 0 ≡ true
-      root = rw (file-occupied u 0, kind, ← file-occupied t 0) (w .root)
+      root : occupied u FILESYSTEM ROOT ≡ true
+      root = rw (file-occupied u ROOT, kind, ← file-occupied t ROOT) (w .root)
 
 -- ---- what may be put
 
-live-ok : (r : Process) → Live r → okProcess (processWords r) ≡ true
+live-ok : (r : Process) → Live r → processWordsOk (processWords r) ≡ true
 live-ok r l = rw (l .live, lt-ltb (r .owner) USERS (l .owner), lt-ltb (r .role) ROLES (l .role), lt-ltb (r .rctype) TYPES (l .rctype), l .forced)
 
 kind-bound : (k : Kind) → kindWord k ≤ DIR
@@ -160,35 +161,35 @@ module _ (t : List ℕ) (w : WellFormed t) where
       (λ z. process-put-occupied t (w .sized) p r l ∙ v .live)
 
   -- process 0 stays
-  pub put-free-process : (p : ℕ) → p < PROCESSES → p ≢ 0 → WellFormed (putProcess t p freeProcess)
+  pub put-free-process : (p : ℕ) → p < PROCESSES → p ≢ FIRST-PROCESS → WellFormed (putProcess t p freeProcess)
   unfolding processOk
   put-free-process p l n =
       process-place-kept (process-written t p freeProcess) p w l (omega arith) (omega arith) (rw (process-block t (w .sized) p freeProcess l)) (λ z. absurd (n z))
 
-  pub put-ipc : (i : ℕ) (r : Ipc) → i < IPCS → okIpc (ipcWords r) ≡ true → WellFormed (putIpc t i r)
+  pub put-ipc : (i : ℕ) (r : Ipc) → i < IPCS → ipcWordsOk (ipcWords r) ≡ true → WellFormed (putIpc t i r)
   unfolding ipcOk
   put-ipc i r l v = ipc-place-kept (ipc-written t i r) i w l (omega arith) (omega arith) (rw (ipc-block t (w .sized) i r l) v)
 
-  pub put-file : (o : ℕ) (f : File) → o < FILES → o ≢ 0 → Barren t o → fileOk (putFile t o f) o ≡ true → WellFormed (putFile t o f)
+  pub put-file : (o : ℕ) (f : File) → o < FILES → o ≢ ROOT → Barren t o → fileOk (putFile t o f) o ≡ true → WellFormed (putFile t o f)
   put-file o f l n b v = file-place-kept (file-written t o f) o w l (omega arith) (omega arith) (inr (n, b)) v
 
-  pub put-free-file : (o : ℕ) → o < FILES → o ≢ 0 → Barren t o → WellFormed (putFile t o freeFile)
+  pub put-free-file : (o : ℕ) → o < FILES → o ≢ ROOT → Barren t o → WellFormed (putFile t o freeFile)
   unfolding fileOk
   put-free-file o l n b = put-file o freeFile l n b (rw (file-block t (w .sized) o freeFile l))
 
-  created-ok : (o y : ℕ) (own : Role) (kind : Kind) → o < FILES → o ≢ 0 → y ≢ o → Defaults own → kindWord kind ≢ FREE
-      → y < FILES → fileWord t y 0 ≡ DIR → fileWord t y 2 < DEEPEST → fileOk (putFile t o (created own kind y (fileWord t y 2 + 1))) o ≡ true
+  created-ok : (o y : ℕ) (own : Role) (kind : Kind) → o < FILES → o ≢ ROOT → y ≢ o → Defaults own → kindWord kind ≢ FREE
+      → y < FILES → fileWord t y KIND ≡ DIR → fileWord t y DEPTH < DEEPEST → fileOk (putFile t o (created own kind y (fileWord t y DEPTH + 1))) o ≡ true
   unfolding fileOk created
   created-ok o y own kind l nz n d k m dir depth =
-      let f = created own kind y (fileWord t y 2 + 1) in
-      rw (file-block t (w .sized) o f l, block-stays (file-written t o f) (fileAddr y) 6 (omega arith), file-block-word t y 0 (omega arith), file-block-word t y 2 (omega arith), ne-eqb (kindWord kind) 0 k, le-leb (kindWord kind) DIR (kind-bound kind), le-leb (own .filecreate) INHERIT-PARENT (d .filecreate), ne-eqb o 0 nz, lt-ltb y FILES m, dir, eq-eqb (fileWord t y 2 + 1) (fileWord t y 2 + 1) refl, le-leb (fileWord t y 2 + 1) DEEPEST (omega arith))
+      let f = created own kind y (fileWord t y DEPTH + 1) in
+      rw (file-block t (w .sized) o f l, block-stays (file-written t o f) (fileAddr y) FILE-WORDS (omega arith), file-block-word t y KIND (omega arith), file-block-word t y DEPTH (omega arith), ne-eqb (kindWord kind) 0 k, le-leb (kindWord kind) DIR (kind-bound kind), le-leb (own .filecreate) INHERIT-PARENT (d .filecreate), ne-eqb o ROOT nz, lt-ltb y FILES m, dir, eq-eqb (fileWord t y DEPTH + 1) (fileWord t y DEPTH + 1) refl, le-leb (fileWord t y DEPTH + 1) DEEPEST (omega arith))
 
   -- rule 6: a new file or directory in a free place, under the DIR y
   pub put-created : (o y : ℕ) (own : Role) (kind : Kind) → o < FILES → occupied t FILESYSTEM o ≡ false → Defaults own → kindWord kind ≢ FREE
-      → y < FILES → fileWord t y 0 ≡ DIR → fileWord t y 2 < DEEPEST → WellFormed (putFile t o (created own kind y (fileWord t y 2 + 1)))
+      → y < FILES → fileWord t y KIND ≡ DIR → fileWord t y DEPTH < DEEPEST → WellFormed (putFile t o (created own kind y (fileWord t y DEPTH + 1)))
   put-created o y own kind l e d k m dir depth =
       let b = free-barren t w o e in
-      put-file o (created own kind y (fileWord t y 2 + 1)) l (b .0) (b .1)
+      put-file o (created own kind y (fileWord t y DEPTH + 1)) l (b .0) (b .1)
       (created-ok o y own kind l (b .0) (λ z. false≢true (sym e ∙ ap (λ (q : ℕ). occupied t FILESYSTEM q) (sym z) ∙ dir-occupied t y dir)) d k m dir depth)
 
 -- ---- what may be set
@@ -228,30 +229,30 @@ module _ (t : List ℕ) where
 
 module _ (t : List ℕ) (w : WellFormed t) where
   -- a word of a live process after the first
-  pub set-process : (p s v : ℕ) → p < PROCESSES → occupied t PROCESS p ≡ true → 0 < s → s < 5 → processWordOk s v ≡ true
+  pub set-process : (p s v : ℕ) → p < PROCESSES → occupied t PROCESS p ≡ true → 0 < s → s < PROCESS-WORDS → processWordOk s v ≡ true
       → WellFormed (set t (processAddr p + s) v)
   set-process p s v l e z m h =
       let x = set-written t (processAddr p + s) v in
       let k : occupied (set t (processAddr p + s) v) PROCESS p ≡ true = occupied-stays x PROCESS p (omega arith) ∙ e in
       process-place-kept x p w l (omega arith) (omega arith)
       (process-words (set t (processAddr p + s) v) p k
-      ∙ words-set t (processAddr p) 5 s v processWordOk (omega (arith, w .sized)) h (sym (process-words t p e) ∙ w .processes p l))
+      ∙ words-set t (processAddr p) PROCESS-WORDS s v processWordOk (omega (arith, w .sized)) h (sym (process-words t p e) ∙ w .processes p l))
       (λ y. k)
 
   -- the type of a live IPC object
-  pub set-ipc : (i v : ℕ) → i < IPCS → occupied t IPC i ≡ true → v < TYPES → WellFormed (set t (ipcAddr i + 1) v)
+  pub set-ipc : (i v : ℕ) → i < IPCS → occupied t IPC i ≡ true → v < TYPES → WellFormed (set t (ipcAddr i + IPC-TYPE) v)
   set-ipc i v l e h =
-      let x = set-written t (ipcAddr i + 1) v in
+      let x = set-written t (ipcAddr i + IPC-TYPE) v in
       ipc-place-kept x i w l (omega arith) (omega arith)
-      (ipc-words (set t (ipcAddr i + 1) v) i (occupied-stays x IPC i (omega arith) ∙ e)
-      ∙ words-set t (ipcAddr i) 2 1 v ipcWordOk (omega (arith, w .sized)) (lt-ltb v TYPES h) (sym (ipc-words t i e) ∙ w .ipcs i l))
+      (ipc-words (set t (ipcAddr i + IPC-TYPE) v) i (occupied-stays x IPC i (omega arith) ∙ e)
+      ∙ words-set t (ipcAddr i) IPC-WORDS 1 v ipcWordOk (omega (arith, w .sized)) (lt-ltb v TYPES h) (sym (ipc-words t i e) ∙ w .ipcs i l))
 
   -- a word of a role
-  pub set-role : (r s v : ℕ) → r < ROLES → s < 9 → roleWordOk s v ≡ true → WellFormed (set t (roleAddr r + s) v)
+  pub set-role : (r s v : ℕ) → r < ROLES → s < ROLE-WORDS → roleWordOk s v ≡ true → WellFormed (set t (roleAddr r + s) v)
   set-role r s v l m h =
       role-place-kept (set-written t (roleAddr r + s) v) r w l (omega arith) (omega arith)
       (role-words (set t (roleAddr r + s) v) r
-      ∙ words-set t (roleAddr r) 9 s v roleWordOk (omega (arith, w .sized)) h (sym (role-words t r) ∙ w .roles r l))
+      ∙ words-set t (roleAddr r) ROLE-WORDS s v roleWordOk (omega (arith, w .sized)) h (sym (role-words t r) ∙ w .roles r l))
 
   -- a user's default role
   pub set-user : (i v : ℕ) → i < USERS → v < ROLES → WellFormed (set t (userAddr i) v)
@@ -261,16 +262,16 @@ module _ (t : List ℕ) (w : WellFormed t) where
       (rw (word-set-same t (userAddr i) v (omega (arith, w .sized))) (lt-ltb v ROLES h))
 
   -- the type, initial or forced value of an occupied file place
-  pub set-value : (o k v : ℕ) → o < FILES → occupied t FILESYSTEM o ≡ true → k < 3 → okValue k v ≡ true → WellFormed (set t (fileAddr o + (3 + k)) v)
+  pub set-value : (o k v : ℕ) → o < FILES → occupied t FILESYSTEM o ≡ true → k < 3 → okValue k v ≡ true → WellFormed (set t (fileAddr o + (FILE-TYPE + k)) v)
   set-value o k v l e m h =
-      file-place-kept x o w l (omega arith) (omega arith) (inl (word o 0 (omega arith), word o 2 (omega arith)))
-      (used-ok u o (λ z. eqb-false _ _ (file-first t o true e) (sym (word o 0 (omega arith)) ∙ z)) used)
+      file-place-kept x o w l (omega arith) (omega arith) (inl (word o KIND (omega arith), word o DEPTH (omega arith)))
+      (used-ok u o (λ z. eqb-false _ _ (file-first t o true e) (sym (word o KIND (omega arith)) ∙ z)) used)
     where
       u : List ℕ
-      u = set t (fileAddr o + (3 + k)) v
+      u = set t (fileAddr o + (FILE-TYPE + k)) v
 
-      x : Written t u (fileAddr o + (3 + k)) 1
-      x = set-written t (fileAddr o + (3 + k)) v
+      x : Written t u (fileAddr o + (FILE-TYPE + k)) 1
+      x = set-written t (fileAddr o + (FILE-TYPE + k)) v
 
       f : Used t o
       f = used-file t w o l e
@@ -282,23 +283,23 @@ module _ (t : List ℕ) (w : WellFormed t) where
       used : Used u o
       used =
           record {
-            kind = rw (word o 0 (omega arith)) (f .kind);
+            kind = rw (word o KIND (omega arith)) (f .kind);
             values = λ j n.
                 elim (ℕ-discrete j k) [
-                  | yes s ↦ rw (s, file-word-set t (w .sized) o (3 + k) v l (omega arith)) h
-                  | no d ↦ rw (file-word-stays x o (3 + j) (omega arith)) (f .values j n)
+                  | yes s ↦ rw (s, file-word-set t (w .sized) o (FILE-TYPE + k) v l (omega arith)) h
+                  | no d ↦ rw (file-word-stays x o (FILE-TYPE + j) (omega arith)) (f .values j n)
                 ];
-            top = λ z. rw (word o 0 (omega arith), word o 1 (omega arith), word o 2 (omega arith)) (f .top z);
+            top = λ z. rw (word o KIND (omega arith), word o PARENT (omega arith), word o DEPTH (omega arith)) (f .top z);
             under = λ n.
                 let y = f .under n in
                 record {
-                  placed = rw (word o 1 (omega arith)) (y .placed);
-                  dir = rw (word o 1 (omega arith), word (fileWord t o 1) 0 (omega arith)) (y .dir);
-                  deeper = rw (word o 1 (omega arith), word o 2 (omega arith), word (fileWord t o 1) 2 (omega arith)) (y .deeper);
-                  bounded = rw (word o 2 (omega arith)) (y .bounded);
+                  placed = rw (word o PARENT (omega arith)) (y .placed);
+                  dir = rw (word o PARENT (omega arith), word (fileWord t o PARENT) KIND (omega arith)) (y .dir);
+                  deeper = rw (word o PARENT (omega arith), word o DEPTH (omega arith), word (fileWord t o PARENT) DEPTH (omega arith)) (y .deeper);
+                  bounded = rw (word o DEPTH (omega arith)) (y .bounded);
                 };
           }
 
   -- any right of any role
-  pub set-right : (g r k v : ℕ) → WellFormed (set t (rightsAddr g r k) v)
-  set-right g r k v = right-place-kept (set-written t (rightsAddr g r k) v) w (omega arith)
+  pub set-right : (g r k v : ℕ) → g < GROUPS → r < ROLES → k < TYPES → WellFormed (set t (rightsAddr g r k) v)
+  set-right g r k v l m n = right-place-kept (set-written t (rightsAddr g r k) v) w (omega arith) (omega arith)

@@ -12,8 +12,8 @@ use Rattle.model.specs.declared.Forced.{Forced}
 use Rattle.model.specs.declared.Process.{Process}
 use Rattle.model.specs.declared.Role.{Role}
 use Rattle.model.specs.Numbers.{ROLES, USERS, TYPES, INHERIT-PARENT, INHERIT-USER, INHERIT-PROCESS, USE-NEW-ROLE-DEF-CREATE}
+use Rattle.model.specs.Ranges.{okProcessForced}
 use Rattle.model.specs.Records.{forcedWord, forcedOf, initialOf}
-use Rattle.model.specs.WellFormed.{okProcessForced}
 use Rattle.model.specs.Transitions.{defaultOr, chownType, forcedRole, initialRole, chownRole, cloned, executed, chowned, withRole}
 use Rattle.model.proofs.Records.{by-cond, by-forced, by-initial, roleInForced, forced-named, forced-word}
 use Rattle.model.proofs.Formed.{Live, Defaults, process-forced-iff}

@@ -7,7 +7,7 @@ use mathlib.Core.List.{List, [], _∷_}
 use mathlib.Core.Logic.{_⊎_, inl, inr, ⊎-elim, _≢_}
 use native.Mathlib.Omega.{arith}
 use native.Mathlib.Nat.{add-zero, not-suc-le-zero, le-of-suc-le-suc}
-use lib.ListN.{length, getD, set, length-set}
+use lib.ListN.{length, set, length-set}
 use lib.Seq.{getD-set-same, getD-set-other, ext-getD}
 use Rattle.model.specs.Words.{_!_, wordsFrom, putFrom, block, put}
 
@@ -65,11 +65,6 @@ module _ (t : List ℕ) (a : ℕ) (vs : List ℕ) where
   unfolding put block
   block-put-same h = from-same vs t a 0 (omega arith)
 
-  pub block-put-other : (b n : ℕ) → Apart b n a (length vs) → block (put t a vs) b n ≡ block t b n
-  unfolding block
-  block-put-other b n o =
-      from-agree (put t a vs) t b 0 n (λ x l m. word-put-other x (⊎-elim (λ w. inl (omega arith)) (λ w. inr (omega arith)) o))
-
 -- ---- a word of a run
 
 pub block-at : (t : List ℕ) (a n i : ℕ) → i < n → block t a n ! i ≡ t ! (a + i)
@@ -98,12 +93,3 @@ module _ (t : List ℕ) (a v : ℕ) where
 
   pub word-set-other : (b : ℕ) → b ≢ a → set t a v ! b ≡ t ! b
   word-set-other b n = getD-set-other t a b v 0 n
-
-  pub block-set-other : (b n : ℕ) → Apart b n a 1 → block (set t a v) b n ≡ block t b n
-  block-set-other b n o =
-      block-agree (set t a v) t b n (λ x l m. word-set-other x (⊎-elim (λ w. omega arith) (λ w. omega arith) o))
-
-  -- a run with one of its words set
-  pub block-set-in : (b n : ℕ) → b ≤ a → a < b + n → a < length t → (i : ℕ) → i < n → b + i ≢ a → block (set t a v) b n ! i ≡ block t b n ! i
-  block-set-in b n l m h i j ne =
-      block-at (set t a v) b n i j ∙ word-set-other (b + i) ne ∙ sym (block-at t b n i j)

@@ -7,32 +7,31 @@ use lib.ListN.{length}
 use lib.Dec.{ltb, leb, eqb}
 use Rattle.sets.specs.Below.{allBelow, someBelow}
 use Rattle.sets.specs.Sets.{has, inside}
+use Rattle.model.specs.declared.Role.{Role}
 use Rattle.model.specs.declared.Verdict.{Verdict}
 use Rattle.model.specs.Numbers.{_unless_, _▹_, GROUPS, FILESYSTEM, PROCESS, PROCESSES, FILES, ROLES, USERS, TYPES, DIR, INHERIT-USER, UP-MIXED, WRITE, EXECUTE, CREATE, DELETE, CHANGE-OWNER, ASSIGN}
 use Rattle.model.specs.Words.{_!_}
+use Rattle.model.specs.Layout.{KIND, FILE-TYPE, INITIAL, FORCED, CLAIM-PROCESS, CLAIM-TYPE, CLAIM-S, CLAIM-Q, CLAIM-T, claimLength}
 use Rattle.model.specs.Records.{processAt, forcedWord, fileWord, roleAt, userRole, hasRight, occupied}
 use Rattle.model.specs.WellFormed.{wellFormed}
-use Rattle.model.specs.Effective.{effType, effInitial, effForced}
+use Rattle.model.specs.Effective.{valueAt}
 
--- ---- a claim is a row of 260 words: a process, a filesystem type k, a role set S, a process type set Q, and a type set T(o) for each file place o
-
-abbrev pub claimLength : ℕ
-claimLength = 260
+-- ---- a claim: a process, a filesystem type k, a role set S, a process type set Q, and a type set T(o) for each file place o
 
 abbrev pub processIn : List ℕ → ℕ
-processIn w = w ! 0
+processIn w = w ! CLAIM-PROCESS
 
 abbrev pub typeIn : List ℕ → ℕ
-typeIn w = w ! 1
+typeIn w = w ! CLAIM-TYPE
 
 abbrev pub S : List ℕ → ℕ
-S w = w ! 2
+S w = w ! CLAIM-S
 
 abbrev pub Q : List ℕ → ℕ
-Q w = w ! 3
+Q w = w ! CLAIM-Q
 
 abbrev pub T : List ℕ → ℕ → ℕ
-T w o = w ! (4 + o)
+T w o = w ! (CLAIM-T + o)
 
 -- ---- words that the rules use
 
@@ -50,7 +49,7 @@ someRoleTo t w g s right = someBelow ROLES (λ r. has (S w) r && toSome t g r s 
 
 -- a plain value is in the set s; a special one need not be
 abbrev pub plainIn : ℕ → ℕ → Bool
-plainIn s v = leb 32 v || has s v
+plainIn s v = leb ROLES v || has s v
 
 -- object o is startable: a role in S has EXECUTE to a type in T(o)
 unfoldable pub startable : List ℕ → List ℕ → ℕ → Bool
@@ -62,7 +61,7 @@ ownForced t w = forcedWord (processAt t (processIn w) .forced)
 
 -- v is carried: it is the process's forced value, or the effective forced value of a startable object
 unfoldable pub carried : List ℕ → List ℕ → ℕ → Bool
-carried t w v = eqb (ownForced t w) v || someBelow FILES (λ o. startable t w o && eqb (effForced t o .value) v)
+carried t w v = eqb (ownForced t w) v || someBelow FILES (λ o. startable t w o && eqb (valueAt t FORCED o) v)
 
 -- ---- the rules
 
@@ -74,31 +73,38 @@ C1 t w = has (S w) (processAt t (processIn w) .role) && has (Q w) (processAt t (
 unfoldable pub assignsNothing : List ℕ → ℕ → Bool
 assignsNothing t r = allBelow GROUPS (λ g. allBelow TYPES (λ k. not (hasRight t g r k ASSIGN)))
 
+-- C2 of role r: it is not Role Admin, has no admin or assign role, and no ASSIGN
+unfoldable pub powerless : List ℕ → ℕ → Bool
+powerless t r =
+    not (roleAt t r .mark) && eqb (roleAt t r .admin .bits) 0 && eqb (roleAt t r .assign .bits) 0 && assignsNothing t r
+
 -- C2: no role in S is Role Admin, has an admin or assign role, or has ASSIGN to any type of any group
 unfoldable pub C2 : List ℕ → List ℕ → Bool
-C2 t w =
-    everyRole w
-    (λ r. not (roleAt t r .mark) && eqb (roleAt t r .admin .bits) 0 && eqb (roleAt t r .assign .bits) 0 && assignsNothing t r)
+C2 t w = everyRole w (powerless t)
+
+-- C3 of role r: it has no right that changes an object of type k, and creates none
+unfoldable pub spares : List ℕ → ℕ → ℕ → Bool
+spares t k r =
+    not (hasRight t FILESYSTEM r k WRITE)
+    && not (hasRight t FILESYSTEM r k CREATE)
+    && not (hasRight t FILESYSTEM r k DELETE)
+    && not (eqb (roleAt t r .filecreate) k)
 
 -- C3: no role in S has WRITE, CREATE or DELETE to k, or file create type k
 unfoldable pub C3 : List ℕ → List ℕ → Bool
-C3 t w =
-    everyRole w
-    (λ r.
-    not (hasRight t FILESYSTEM r (typeIn w) WRITE)
-    && not (hasRight t FILESYSTEM r (typeIn w) CREATE)
-    && not (hasRight t FILESYSTEM r (typeIn w) DELETE)
-    && not (eqb (roleAt t r .filecreate) (typeIn w)))
+C3 t w = everyRole w (spares t (typeIn w))
 
 -- C4: compatible roles of S are in S
 unfoldable pub C4 : List ℕ → List ℕ → Bool
 C4 t w = everyRole w (λ r. inside (roleAt t r .compatible .bits) (S w))
 
+-- C5 of a role: its plain process create, execute and chown types are in q
+abbrev pub staysIn : ℕ → Role → Bool
+staysIn q r = plainIn q (r .processcreate) && plainIn q (r .execute) && plainIn q (r .chown)
+
 -- C5: plain process create, execute and chown types of roles in S are in Q
 unfoldable pub C5 : List ℕ → List ℕ → Bool
-C5 t w =
-    everyRole w
-    (λ r. plainIn (Q w) (roleAt t r .processcreate) && plainIn (Q w) (roleAt t r .execute) && plainIn (Q w) (roleAt t r .chown))
+C5 t w = everyRole w (λ r. staysIn (Q w) (roleAt t r))
 
 -- C6 for a DIR o and each of all 32 roles: with CREATE to a type in T(o), the role's plain file create type is in T(o)
 unfoldable pub createsInside : List ℕ → List ℕ → ℕ → Bool
@@ -109,7 +115,7 @@ createsInside t w o =
 unfoldable pub holds : List ℕ → List ℕ → ℕ → Bool
 holds t w o =
     cond (occupied t FILESYSTEM o)
-    (has (T w o) (effType t o .value) && (not (eqb (fileWord t o 0) DIR) || createsInside t w o))
+    (has (T w o) (valueAt t FILE-TYPE o) && (not (eqb (fileWord t o KIND) DIR) || createsInside t w o))
     (eqb (T w o) 0)
 
 -- C6
@@ -119,7 +125,7 @@ C6 t w = allBelow FILES (holds t w)
 -- C7 for the place o, where it is startable: its plain effective initial and forced values are in S
 unfoldable pub starts : List ℕ → List ℕ → ℕ → Bool
 starts t w o =
-    not (startable t w o) || (plainIn (S w) (effInitial t o .value) && plainIn (S w) (effForced t o .value))
+    not (startable t w o) || (plainIn (S w) (valueAt t INITIAL o) && plainIn (S w) (valueAt t FORCED o))
 
 -- C7: a plain effective initial role of a startable object is in S, and so is each plain carried value
 unfoldable pub C7 : List ℕ → List ℕ → Bool

@@ -1,7 +1,7 @@
 -- Fresh tables ("Fresh tables"): role 0 is Role Admin, process 0 runs with it (rule 1), the root inherits.
 -- Assumes nothing.
-use Prim.Native.Nat.{ℕ, zero, suc}
-use mathlib.Core.Bool.{Bool, true, false, cond}
+use Prim.Native.Nat.{ℕ, zero, suc, _-_, _*_}
+use mathlib.Core.Bool.{Bool, true, false}
 use mathlib.Core.List.{List, [], _∷_, _++_}
 use lib.ListN.{length, replicate}
 use lib.Dec.{eqb}
@@ -11,8 +11,9 @@ use Rattle.model.specs.declared.Forced.{Forced}
 use Rattle.model.specs.declared.Process.{Process}
 use Rattle.model.specs.declared.File.{File}
 use Rattle.model.specs.declared.Role.{Role}
-use Rattle.model.specs.Numbers.{INHERIT-PARENT}
-use Rattle.model.specs.Records.{rowLength, processWords, fileWords, roleWords, setOf}
+use Rattle.model.specs.Numbers.{GROUPS, ROLES, USERS, TYPES, PROCESSES, FILES, IPCS, INHERIT-PARENT, ROOT, _unless_}
+use Rattle.model.specs.Layout.{PROCESS-WORDS, IPC-WORDS, FILE-WORDS, rowLength}
+use Rattle.model.specs.Records.{processWords, fileWords, roleWords, setOf}
 use Rattle.model.specs.Outcome.{Outcome, decide}
 
 -- owner 0, role 0, type 0, forced up mixed
@@ -24,7 +25,7 @@ abbrev pub rootDir : File
 rootDir =
     record {
       kind = Kind.Dir;
-      parent = 0;
+      parent = ROOT;
       depth = 0;
       rctype = INHERIT-PARENT;
       initial = Initial.InheritParent;
@@ -52,26 +53,26 @@ times zero w = []
 times (suc n) w = w ++ times n w
 
 abbrev pub freshProcesses : List ℕ
-freshProcesses = processWords firstProcess ++ replicate 315 0
+freshProcesses = processWords firstProcess ++ replicate ((PROCESSES - 1) * PROCESS-WORDS) 0
 
 abbrev pub freshUsers : List ℕ
-freshUsers = replicate 32 0
+freshUsers = replicate USERS 0
 
 abbrev pub freshRoles : List ℕ
-freshRoles = roleWords (freshRole true) ++ times 31 (roleWords (freshRole false))
+freshRoles = roleWords (freshRole true) ++ times (ROLES - 1) (roleWords (freshRole false))
 
 abbrev pub freshIpc : List ℕ
-freshIpc = replicate 128 0
+freshIpc = replicate (IPCS * IPC-WORDS) 0
 
 abbrev pub freshFiles : List ℕ
-freshFiles = fileWords rootDir ++ replicate 1530 0
+freshFiles = fileWords rootDir ++ replicate ((FILES - 1) * FILE-WORDS) 0
 
 abbrev pub freshRights : List ℕ
-freshRights = replicate 3072 0
+freshRights = replicate (GROUPS * (ROLES * TYPES)) 0
 
 unfoldable pub fresh : List ℕ
 fresh = freshProcesses ++ freshUsers ++ freshRoles ++ freshIpc ++ freshFiles ++ freshRights
 
 -- building fresh tables asks only for the full length of what is overwritten
-unfoldable pub build : List ℕ → Outcome
-build t = cond (eqb (length t) rowLength) (decide t 0 0 fresh) (decide t 1 0 t)
+unfoldable pub buildFresh : List ℕ → Outcome
+buildFresh t = decide t (1 unless eqb (length t) rowLength) 0 fresh

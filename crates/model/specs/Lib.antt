@@ -1,10 +1,14 @@
 pub mod Numbers
+pub mod Layout
+pub mod Ranges
 pub mod Words
 pub mod Records
 pub mod WellFormed
+pub mod Policy
 pub mod Outcome
 pub mod Fresh
 pub mod Effective
+pub mod Queries
 pub mod Transitions
 pub mod Calls
 pub mod Administration

@@ -2,6 +2,7 @@
 -- Assumes nothing.
 use Prim.Native.Nat.{ℕ, zero, suc}
 use mathlib.Core.Bool.{Bool, cond}
+use lib.Dec.{eqb}
 
 -- ---- how many there are of each
 
@@ -26,8 +27,12 @@ FILES = 256
 abbrev pub IPCS : ℕ
 IPCS = 64
 
+-- depths are 0 to 15
 abbrev pub DEEPEST : ℕ
 DEEPEST = 15
+
+abbrev pub DEPTHS : ℕ
+DEPTHS = 16
 
 -- ---- the three groups of types
 
@@ -39,6 +44,14 @@ PROCESS = 1
 
 abbrev pub IPC : ℕ
 IPC = 2
+
+-- one of three, by the group
+abbrev pub byGroup : {A : Type 0} → ℕ → A → A → A → A
+byGroup g file process ipc = cond (eqb g FILESYSTEM) file (cond (eqb g PROCESS) process ipc)
+
+-- how many places the objects of a group have
+abbrev pub places : ℕ → ℕ
+places g = byGroup g FILES PROCESSES IPCS
 
 -- ---- kinds of a file place
 
@@ -117,17 +130,55 @@ RIGHTS = 32
 abbrev pub COMPATIBLE-ROLES : ℕ
 COMPATIBLE-ROLES = 0
 
+abbrev pub ADMIN-ROLES : ℕ
+ADMIN-ROLES = 1
+
+abbrev pub ASSIGN-ROLES : ℕ
+ASSIGN-ROLES = 2
+
 abbrev pub ROLE-SETS : ℕ
 ROLE-SETS = 3
 
-abbrev pub CHOWN-TYPE : ℕ
-CHOWN-TYPE = 3
+abbrev pub FILE-CREATE : ℕ
+FILE-CREATE = 0
 
-abbrev pub IPC-TYPE : ℕ
-IPC-TYPE = 4
+abbrev pub PROCESS-CREATE : ℕ
+PROCESS-CREATE = 1
+
+abbrev pub PROCESS-EXECUTE : ℕ
+PROCESS-EXECUTE = 2
+
+abbrev pub PROCESS-CHOWN : ℕ
+PROCESS-CHOWN = 3
+
+abbrev pub IPC-CREATE : ℕ
+IPC-CREATE = 4
 
 abbrev pub DEFAULT-TYPES : ℕ
 DEFAULT-TYPES = 5
+
+-- ---- the places that are never removed, and what inherit parent reads as at the root
+
+abbrev pub FIRST-PROCESS : ℕ
+FIRST-PROCESS = 0
+
+abbrev pub ROOT : ℕ
+ROOT = 0
+
+abbrev pub isFirst : ℕ → Bool
+isFirst p = eqb p FIRST-PROCESS
+
+abbrev pub isRoot : ℕ → Bool
+isRoot o = eqb o ROOT
+
+abbrev pub ROOT-TYPE : ℕ
+ROOT-TYPE = 0
+
+abbrev pub ROOT-INITIAL : ℕ
+ROOT-INITIAL = USE-FORCED-ROLE
+
+abbrev pub ROOT-FORCED : ℕ
+ROOT-FORCED = UP-MIXED
 
 -- ---- the first refusal that applies; 0 where none does
 

@@ -11,7 +11,28 @@ pub record Outcome : Type 0 where
 abbrev pub outcome : Answer → List ℕ → Outcome
 outcome a u = record { answer = a; after = u }
 
--- number 0 grants: the place is answered and the row is u; any other number refuses: place 0, the row t as found
+-- a grant answers a place and leaves the row u
+abbrev pub granting : ℕ → List ℕ → Outcome
+granting place u = outcome (record { number = 0; place = place }) u
+
+-- a refusal answers its number and leaves the row t
+abbrev pub refusing : ℕ → List ℕ → Outcome
+refusing n t = outcome (record { number = n; place = 0 }) t
+
+-- number 0 grants, any other refuses
 unfoldable pub decide : List ℕ → ℕ → ℕ → List ℕ → Outcome
-decide t zero place u = outcome (record { number = 0; place = place }) u
-decide t (suc n) place u = outcome (record { number = suc n; place = 0 }) t
+decide t zero place u = granting place u
+decide t (suc n) place u = refusing (suc n) t
+
+-- what the rules say of one call by a live caller: the first of the tests 4 to 8 that fails, the place that a grant answers, and the row it leaves
+pub record Ruling : Type 0 where
+  pub number : ℕ
+  pub place : ℕ
+  pub row : List ℕ
+
+abbrev pub ruled : ℕ → ℕ → List ℕ → Ruling
+ruled n place u = record { number = n; place = place; row = u }
+
+-- the ruling carried out on the row t
+abbrev pub carryOut : List ℕ → Ruling → Outcome
+carryOut t r = decide t (r .number) (r .place) (r .row)

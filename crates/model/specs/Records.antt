@@ -1,9 +1,8 @@
--- The tables ("Tables"): where each lies in the row, and a record as the words that it is kept in.
+-- The tables ("Tables"): a record as the words that it is kept in, and the places of each group's objects.
 -- Assumes nothing.
-use Prim.Native.Nat.{ℕ, _+_, _*_}
+use Prim.Native.Nat.{ℕ, _+_}
 use mathlib.Core.Bool.{Bool, true, false, cond, not}
 use mathlib.Core.List.{List, [], _∷_}
-use lib.ListN.{set}
 use lib.Dec.{ltb, eqb}
 use Rattle.sets.specs.Below.{firstBelow}
 use Rattle.sets.specs.Sets.{has}
@@ -15,38 +14,9 @@ use Rattle.model.specs.declared.Process.{Process}
 use Rattle.model.specs.declared.File.{File}
 use Rattle.model.specs.declared.Ipc.{Ipc}
 use Rattle.model.specs.declared.Role.{Role}
-use Rattle.model.specs.Numbers.{FILESYSTEM, PROCESS, FREE, FILE, DIR, FILES, PROCESSES, IPCS, INHERIT-PARENT, USE-FORCED-ROLE, INHERIT-USER, INHERIT-PROCESS, UP-MIXED}
+use Rattle.model.specs.Numbers.{FREE, FILE, DIR, ROLES, byGroup, places, INHERIT-PARENT, USE-FORCED-ROLE, INHERIT-USER, INHERIT-PROCESS, UP-MIXED, COMPATIBLE-ROLES, ADMIN-ROLES, ASSIGN-ROLES, FILE-CREATE, PROCESS-CREATE, PROCESS-EXECUTE, PROCESS-CHOWN, IPC-CREATE}
+use Rattle.model.specs.Layout.{LIVE, OWNER, ROLE, PROCESS-TYPE, PROCESS-FORCED, PROCESS-WORDS, MARK, DEFAULTS, ROLE-WORDS, IPC-LIVE, IPC-TYPE, IPC-WORDS, processAddr, userAddr, roleAddr, ipcAddr, fileAddr, rightsAddr}
 use Rattle.model.specs.Words.{_!_, block, put}
-
--- ---- where the tables lie: small ones that are read often first, the rights last
-
--- 64 processes of 5 words: live, owner, role, type, forced
-abbrev pub processAddr : ℕ → ℕ
-processAddr p = p * 5
-
--- 32 users: the default role
-abbrev pub userAddr : ℕ → ℕ
-userAddr u = 320 + u
-
--- 32 roles of 9 words: compatible, admin, assign roles; Role Admin mark; file create, process create, process execute, process chown, IPC create type
-abbrev pub roleAddr : ℕ → ℕ
-roleAddr r = 352 + r * 9
-
--- 64 IPC objects of 2 words: live, type
-abbrev pub ipcAddr : ℕ → ℕ
-ipcAddr i = 640 + i * 2
-
--- 256 files of 6 words: kind, parent, depth, type, initial, forced
-abbrev pub fileAddr : ℕ → ℕ
-fileAddr o = 768 + o * 6
-
--- 3 groups of 32 roles of 32 types: a set of rights
-abbrev pub rightsAddr : ℕ → ℕ → ℕ → ℕ
-rightsAddr g r k = 2304 + g * 1024 + r * 32 + k
-
--- the full length of all tables
-abbrev pub rowLength : ℕ
-rowLength = 5376
 
 -- ---- special cases as numbers, and numbers as special cases
 
@@ -68,7 +38,7 @@ initialWord Initial.InheritParent = INHERIT-PARENT
 initialWord Initial.UseForcedRole = USE-FORCED-ROLE
 
 unfoldable pub initialOf : ℕ → Initial
-initialOf w = cond (ltb w 32) (Initial.Plain w) (cond (eqb w INHERIT-PARENT) Initial.InheritParent Initial.UseForcedRole)
+initialOf w = cond (ltb w ROLES) (Initial.Plain w) (cond (eqb w INHERIT-PARENT) Initial.InheritParent Initial.UseForcedRole)
 
 abbrev pub forcedWord : Forced → ℕ
 forcedWord (Forced.Plain r) = r
@@ -79,7 +49,7 @@ forcedWord Forced.UpMixed = UP-MIXED
 
 unfoldable pub forcedOf : ℕ → Forced
 forcedOf w =
-    cond (ltb w 32) (Forced.Plain w)
+    cond (ltb w ROLES) (Forced.Plain w)
     (cond (eqb w INHERIT-PARENT) Forced.InheritParent
     (cond (eqb w INHERIT-USER) Forced.InheritUser
     (cond (eqb w INHERIT-PROCESS) Forced.InheritProcess Forced.UpMixed)))
@@ -90,10 +60,10 @@ abbrev pub processWords : Process → List ℕ
 processWords r = flag (r .live) ∷ r .owner ∷ r .role ∷ r .rctype ∷ forcedWord (r .forced) ∷ []
 
 abbrev pub processOf : List ℕ → Process
-processOf w = record { live = eqb (w ! 0) 1; owner = w ! 1; role = w ! 2; rctype = w ! 3; forced = forcedOf (w ! 4) }
+processOf w = record { live = eqb (w ! LIVE) 1; owner = w ! OWNER; role = w ! ROLE; rctype = w ! PROCESS-TYPE; forced = forcedOf (w ! PROCESS-FORCED) }
 
 unfoldable pub processAt : List ℕ → ℕ → Process
-processAt t p = processOf (block t (processAddr p) 5)
+processAt t p = processOf (block t (processAddr p) PROCESS-WORDS)
 
 unfoldable pub putProcess : List ℕ → ℕ → Process → List ℕ
 putProcess t p r = put t (processAddr p) (processWords r)
@@ -106,19 +76,13 @@ freeProcess = record { live = false; owner = 0; role = 0; rctype = 0; forced = F
 abbrev pub fileWords : File → List ℕ
 fileWords f = kindWord (f .kind) ∷ f .parent ∷ f .depth ∷ f .rctype ∷ initialWord (f .initial) ∷ forcedWord (f .forced) ∷ []
 
-abbrev pub fileOf : List ℕ → File
-fileOf w = record { kind = kindOf (w ! 0); parent = w ! 1; depth = w ! 2; rctype = w ! 3; initial = initialOf (w ! 4); forced = forcedOf (w ! 5) }
-
-unfoldable pub fileAt : List ℕ → ℕ → File
-fileAt t o = fileOf (block t (fileAddr o) 6)
-
 unfoldable pub putFile : List ℕ → ℕ → File → List ℕ
 putFile t o f = put t (fileAddr o) (fileWords f)
 
 abbrev pub freeFile : File
 freeFile = record { kind = Kind.Free; parent = 0; depth = 0; rctype = 0; initial = Initial.Plain 0; forced = Forced.Plain 0 }
 
--- one word of a file: 0 kind, 1 parent, 2 depth, 3 type, 4 initial, 5 forced
+-- one word of a file, by its name in the layout
 unfoldable pub fileWord : List ℕ → ℕ → ℕ → ℕ
 fileWord t o k = t ! (fileAddr o + k)
 
@@ -128,10 +92,10 @@ abbrev pub ipcWords : Ipc → List ℕ
 ipcWords i = flag (i .live) ∷ i .rctype ∷ []
 
 abbrev pub ipcOf : List ℕ → Ipc
-ipcOf w = record { live = eqb (w ! 0) 1; rctype = w ! 1 }
+ipcOf w = record { live = eqb (w ! IPC-LIVE) 1; rctype = w ! IPC-TYPE }
 
 unfoldable pub ipcAt : List ℕ → ℕ → Ipc
-ipcAt t i = ipcOf (block t (ipcAddr i) 2)
+ipcAt t i = ipcOf (block t (ipcAddr i) IPC-WORDS)
 
 unfoldable pub putIpc : List ℕ → ℕ → Ipc → List ℕ
 putIpc t i r = put t (ipcAddr i) (ipcWords r)
@@ -152,22 +116,19 @@ roleWords r =
 abbrev pub roleOf : List ℕ → Role
 roleOf w =
     record {
-      compatible = setOf (w ! 0);
-      admin = setOf (w ! 1);
-      assign = setOf (w ! 2);
-      mark = eqb (w ! 3) 1;
-      filecreate = w ! 4;
-      processcreate = w ! 5;
-      execute = w ! 6;
-      chown = w ! 7;
-      ipccreate = w ! 8;
+      compatible = setOf (w ! COMPATIBLE-ROLES);
+      admin = setOf (w ! ADMIN-ROLES);
+      assign = setOf (w ! ASSIGN-ROLES);
+      mark = eqb (w ! MARK) 1;
+      filecreate = w ! (DEFAULTS + FILE-CREATE);
+      processcreate = w ! (DEFAULTS + PROCESS-CREATE);
+      execute = w ! (DEFAULTS + PROCESS-EXECUTE);
+      chown = w ! (DEFAULTS + PROCESS-CHOWN);
+      ipccreate = w ! (DEFAULTS + IPC-CREATE);
     }
 
 unfoldable pub roleAt : List ℕ → ℕ → Role
-roleAt t r = roleOf (block t (roleAddr r) 9)
-
-unfoldable pub putRole : List ℕ → ℕ → Role → List ℕ
-putRole t r v = put t (roleAddr r) (roleWords v)
+roleAt t r = roleOf (block t (roleAddr r) ROLE-WORDS)
 
 -- a user's default role
 unfoldable pub userRole : List ℕ → ℕ → ℕ
@@ -178,12 +139,6 @@ unfoldable pub hasRight : List ℕ → ℕ → ℕ → ℕ → ℕ → Bool
 hasRight t g r k right = has (t ! rightsAddr g r k) right
 
 -- ---- the places of a group's objects
-
-abbrev pub byGroup : {A : Type 0} → ℕ → A → A → A → A
-byGroup g file process ipc = cond (eqb g FILESYSTEM) file (cond (eqb g PROCESS) process ipc)
-
-abbrev pub places : ℕ → ℕ
-places g = byGroup g FILES PROCESSES IPCS
 
 abbrev pub placeAddr : ℕ → ℕ → ℕ
 placeAddr g p = byGroup g (fileAddr p) (processAddr p) (ipcAddr p)

@@ -1,7 +1,8 @@
--- Runs of calls, the family of a claim's process, and what demand 3 says of every point of a run.
+-- Runs: what happens to the tables one after another, the answers given, the family of a claim's process, and what demand 3 says of every
+-- point of a run.
 -- Assumes nothing.
 use Prim.Native.Nat.{ℕ}
-use mathlib.Core.Bool.{Bool, true, cond, not, _&&_, _||_}
+use mathlib.Core.Bool.{Bool, true, not, _&&_, _||_}
 use mathlib.Core.List.{List, [], _∷_}
 use lib.Dec.{eqb}
 use Rattle.sets.specs.Below.{allBelow}
@@ -9,16 +10,31 @@ use Rattle.sets.specs.Sets.{has}
 use Rattle.model.specs.declared.Call.{Call}
 use Rattle.model.specs.declared.Answer.{Answer}
 use Rattle.model.specs.Numbers.{FILESYSTEM, PROCESSES, WRITE, CREATE, DELETE}
+use Rattle.model.specs.Layout.{FILE-TYPE}
 use Rattle.model.specs.Records.{processAt}
-use Rattle.model.specs.Effective.{effType}
+use Rattle.model.specs.Effective.{valueAt}
 use Rattle.model.specs.Outcome.{Outcome}
 use Rattle.model.specs.Step.{step}
 use Rattle.model.specs.Claims.{processIn, typeIn, S}
 
--- a call, and the process that makes it; a run is any list of these
-pub record Asked : Type 0 where
-  pub caller : ℕ
-  pub call : Call
+-- ---- runs
+
+-- what may happen to the tables: process c makes a call
+pub data Event : Type 0 where
+  asks : ℕ → Call → Event
+
+abbrev pub happens : List ℕ → Event → Outcome
+happens t (asks c call) = step t c call
+
+-- what the events of a run are answered, each on the row that those before it leave
+unfoldable pub answers : List ℕ → List Event → List Answer
+answers t [] = []
+answers t (e ∷ rest) = happens t e .answer ∷ answers (happens t e .after) rest
+
+-- the row after a run
+unfoldable pub after : List ℕ → List Event → List ℕ
+after t [] = t
+after t (e ∷ rest) = after (happens t e .after) rest
 
 -- ---- what demand 3 speaks of: the kinds of call that it tells apart
 
@@ -26,33 +42,23 @@ pub data Deed : Type 0 where
   joins : Deed
   leaves : Deed
   reaches : ℕ → ℕ → ℕ → Deed
-  makes : Deed
-  removes : ℕ → Deed
+  creates : Deed
+  deletes : ℕ → Deed
   administers : Deed
-  passes : Deed
+  other : Deed
 
 abbrev pub deed : Call → Deed
 deed (Call.Access g o right) = reaches g o right
 deed Call.Clone = joins
 deed Call.Exit = leaves
-deed (Call.Execute f) = passes
-deed (Call.ChangeOwner u) = passes
-deed (Call.ChangeRole r) = passes
-deed (Call.Create kind y) = makes
-deed (Call.Delete o) = removes o
-deed Call.CreateIpc = passes
-deed (Call.DeleteIpc i) = passes
-deed (Call.AddRole s r m) = administers
-deed (Call.RemoveRole s r m) = administers
-deed (Call.SetUserRole u r) = administers
-deed (Call.SetInitial f v) = administers
-deed (Call.SetForced f v) = administers
-deed (Call.SetProcessForced p v) = administers
-deed (Call.SetDefaultType which r v) = administers
-deed (Call.SetRoleAdmin r m) = administers
-deed (Call.SetType g o v) = administers
-deed (Call.AddRight g r k right) = administers
-deed (Call.RemoveRight g r k right) = administers
+deed (Call.Execute f) = other
+deed (Call.ChangeOwner u) = other
+deed (Call.ChangeRole r) = other
+deed (Call.Create kind y) = creates
+deed (Call.Delete o) = deletes o
+deed Call.CreateIpc = other
+deed (Call.DeleteIpc i) = other
+deed (Call.Administer change) = administers
 
 abbrev pub granted : Answer → Bool
 granted a = eqb (a .number) 0
@@ -66,14 +72,14 @@ abbrev pub founder : List ℕ → Family
 founder w = λ p. eqb p (processIn w)
 
 -- the family after a call of process c that was answered a
-abbrev pub familyAfter : Family → ℕ → Answer → Deed → Family
-familyAfter F c a joins = λ p. F p || (F c && granted a && eqb p (a .place))
-familyAfter F c a leaves = λ p. F p && not (granted a && eqb p c)
-familyAfter F c a (reaches g o right) = F
-familyAfter F c a makes = F
-familyAfter F c a (removes o) = F
-familyAfter F c a administers = F
-familyAfter F c a passes = F
+abbrev pub familyBy : Family → ℕ → Answer → Deed → Family
+familyBy F c a joins = λ p. F p || (F c && granted a && eqb p (a .place))
+familyBy F c a leaves = λ p. F p && not (granted a && eqb p c)
+familyBy F c a (reaches g o right) = F
+familyBy F c a creates = F
+familyBy F c a (deletes o) = F
+familyBy F c a administers = F
+familyBy F c a other = F
 
 -- ---- what an accepted claim promises
 
@@ -91,37 +97,44 @@ abbrev pub harmless : ℕ → List ℕ → Outcome → Deed → Bool
 harmless k t e joins = true
 harmless k t e leaves = true
 harmless k t e (reaches g o right) =
-    not (granted (e .answer) && eqb g FILESYSTEM && changes right && eqb (effType t o .value) k)
-harmless k t e makes = not (granted (e .answer) && eqb (effType (e .after) (e .answer .place) .value) k)
-harmless k t e (removes o) = not (granted (e .answer) && eqb (effType t o .value) k)
+    not (granted (e .answer) && eqb g FILESYSTEM && changes right && eqb (valueAt t FILE-TYPE o) k)
+harmless k t e creates = not (granted (e .answer) && eqb (valueAt (e .after) FILE-TYPE (e .answer .place)) k)
+harmless k t e (deletes o) = not (granted (e .answer) && eqb (valueAt t FILE-TYPE o) k)
 harmless k t e administers = not (granted (e .answer))
-harmless k t e passes = true
+harmless k t e other = true
 
--- a process outside the family is granted no administration call
+-- what a process outside the family may be granted: no administration call
 abbrev pub unadministered : Answer → Deed → Bool
 unadministered a joins = true
 unadministered a leaves = true
 unadministered a (reaches g o right) = true
-unadministered a makes = true
-unadministered a (removes o) = true
+unadministered a creates = true
+unadministered a (deletes o) = true
 unadministered a administers = not (granted a)
-unadministered a passes = true
+unadministered a other = true
 
--- ---- runs
+-- ---- at each event of a run
 
--- the hypothesis: at no point is a process outside the family granted an administration call
-unfoldable pub allowed : List ℕ → Family → List Asked → Bool
+abbrev pub familyAfter : List ℕ → Family → Event → Family
+familyAfter t F (asks c call) = familyBy F c (step t c call .answer) (deed call)
+
+-- the hypothesis: a process outside the family is granted no administration call
+abbrev pub allowedAt : List ℕ → Family → Event → Bool
+allowedAt t F (asks c call) = F c || unadministered (step t c call .answer) (deed call)
+
+-- the promise: a call of a member is harmless
+abbrev pub harmlessAt : ℕ → List ℕ → Family → Event → Bool
+harmlessAt k t F (asks c call) = not (F c) || harmless k t (step t c call) (deed call)
+
+-- the hypothesis, at every point
+unfoldable pub allowed : List ℕ → Family → List Event → Bool
 allowed t F [] = true
-allowed t F (a ∷ rest) =
-    let e = step t (a .caller) (a .call) in
-    (F (a .caller) || unadministered (e .answer) (deed (a .call)))
-    && allowed (e .after) (familyAfter F (a .caller) (e .answer) (deed (a .call))) rest
+allowed t F (e ∷ rest) = allowedAt t F e && allowed (happens t e .after) (familyAfter t F e) rest
 
--- the promise: at every point all members are within S, and every call of a member is harmless
-unfoldable pub confined : List ℕ → List ℕ → Family → List Asked → Bool
+-- the promise, at every point: all members are within S, and every call of a member is harmless
+unfoldable pub confined : List ℕ → List ℕ → Family → List Event → Bool
 confined w t F [] = membersWithin w t F
-confined w t F (a ∷ rest) =
-    let e = step t (a .caller) (a .call) in
+confined w t F (e ∷ rest) =
     membersWithin w t F
-    && (not (F (a .caller)) || harmless (typeIn w) t e (deed (a .call)))
-    && confined w (e .after) (familyAfter F (a .caller) (e .answer) (deed (a .call))) rest
+    && harmlessAt (typeIn w) t F e
+    && confined w (happens t e .after) (familyAfter t F e) rest

@@ -1,84 +1,76 @@
 -- Well formed ("Tables", last paragraph but one), as a test that computes.
 -- Assumes nothing.
 use Prim.Native.Nat.{ℕ, _+_}
-use mathlib.Core.Bool.{Bool, cond, _&&_, _||_}
+use mathlib.Core.Bool.{Bool, cond, _&&_}
 use mathlib.Core.List.{List}
 use lib.ListN.{length}
 use lib.Dec.{ltb, leb, eqb}
 use Rattle.sets.specs.Below.{allBelow}
-use Rattle.model.specs.Numbers.{FILESYSTEM, PROCESS, PROCESSES, FILES, IPCS, ROLES, USERS, TYPES, FREE, DIR, DEEPEST, INHERIT-PARENT, USE-FORCED-ROLE, INHERIT-USER, UP-MIXED, USE-NEW-ROLE-DEF-CREATE}
+use Rattle.model.specs.Numbers.{FILESYSTEM, PROCESS, PROCESSES, FILES, IPCS, ROLES, USERS, TYPES, FREE, DIR, DEEPEST, FILE-CREATE, PROCESS-CREATE, PROCESS-EXECUTE, PROCESS-CHOWN, IPC-CREATE, FIRST-PROCESS, ROOT, isRoot}
+use Rattle.model.specs.Layout.{LIVE, OWNER, ROLE, PROCESS-TYPE, PROCESS-FORCED, PROCESS-WORDS, MARK, DEFAULTS, ROLE-WORDS, IPC-LIVE, IPC-TYPE, IPC-WORDS, KIND, PARENT, DEPTH, FILE-TYPE, INITIAL, FORCED, FILE-WORDS, processAddr, userAddr, roleAddr, ipcAddr, fileAddr, rowLength}
 use Rattle.model.specs.Words.{_!_, block}
-use Rattle.model.specs.Records.{rowLength, processAddr, userAddr, roleAddr, ipcAddr, fileAddr, occupied}
-
--- ---- the ranges of values
-
--- file type and create, process create and execute: 0 to 32
-abbrev pub okType : ℕ → Bool
-okType v = leb v INHERIT-PARENT
-
--- chown: 0 to 33
-abbrev pub okChown : ℕ → Bool
-okChown v = leb v USE-NEW-ROLE-DEF-CREATE
-
--- initial: 0 to 33
-abbrev pub okInitial : ℕ → Bool
-okInitial v = leb v USE-FORCED-ROLE
-
--- process forced: 0 to 31 and 34 to 36
-abbrev pub okProcessForced : ℕ → Bool
-okProcessForced v = ltb v ROLES || (leb INHERIT-USER v && leb v UP-MIXED)
-
--- file forced: the same with 32
-abbrev pub okForced : ℕ → Bool
-okForced v = leb v INHERIT-PARENT || (leb INHERIT-USER v && leb v UP-MIXED)
+use Rattle.model.specs.Ranges.{okType, okInitial, okForced, okProcessForced, okDefault}
+use Rattle.model.specs.Records.{occupied}
 
 -- ---- the words of a record: those of a free place are zeros only
 
--- live, owner, role, type, forced
-abbrev pub okProcess : List ℕ → Bool
-okProcess w =
-    cond (eqb (w ! 0) 0)
-    (eqb (w ! 1) 0 && eqb (w ! 2) 0 && eqb (w ! 3) 0 && eqb (w ! 4) 0)
-    (eqb (w ! 0) 1 && ltb (w ! 1) USERS && ltb (w ! 2) ROLES && ltb (w ! 3) TYPES && okProcessForced (w ! 4))
+abbrev pub processWordsOk : List ℕ → Bool
+processWordsOk w =
+    cond (eqb (w ! LIVE) 0)
+    (eqb (w ! OWNER) 0 && eqb (w ! ROLE) 0 && eqb (w ! PROCESS-TYPE) 0 && eqb (w ! PROCESS-FORCED) 0)
+    (eqb (w ! LIVE) 1
+    && ltb (w ! OWNER) USERS
+    && ltb (w ! ROLE) ROLES
+    && ltb (w ! PROCESS-TYPE) TYPES
+    && okProcessForced (w ! PROCESS-FORCED))
 
--- live, type
-abbrev pub okIpc : List ℕ → Bool
-okIpc w = cond (eqb (w ! 0) 0) (eqb (w ! 1) 0) (eqb (w ! 0) 1 && ltb (w ! 1) TYPES)
+abbrev pub ipcWordsOk : List ℕ → Bool
+ipcWordsOk w = cond (eqb (w ! IPC-LIVE) 0) (eqb (w ! IPC-TYPE) 0) (eqb (w ! IPC-LIVE) 1 && ltb (w ! IPC-TYPE) TYPES)
 
--- three sets, the mark, five default types; a set may be any
-abbrev pub okRole : List ℕ → Bool
-okRole w = leb (w ! 3) 1 && okType (w ! 4) && okType (w ! 5) && okType (w ! 6) && okChown (w ! 7) && ltb (w ! 8) TYPES
+-- a set may be any
+abbrev pub roleWordsOk : List ℕ → Bool
+roleWordsOk w =
+    leb (w ! MARK) 1
+    && okDefault FILE-CREATE (w ! (DEFAULTS + FILE-CREATE))
+    && okDefault PROCESS-CREATE (w ! (DEFAULTS + PROCESS-CREATE))
+    && okDefault PROCESS-EXECUTE (w ! (DEFAULTS + PROCESS-EXECUTE))
+    && okDefault PROCESS-CHOWN (w ! (DEFAULTS + PROCESS-CHOWN))
+    && okDefault IPC-CREATE (w ! (DEFAULTS + IPC-CREATE))
 
--- place 0 is the root, a DIR with parent 0 and depth 0; any other file has an occupied DIR as parent and a depth one above it
-abbrev pub okLink : ℕ → List ℕ → List ℕ → Bool
-okLink o w parent =
-    cond (eqb o 0)
-    (eqb (w ! 0) DIR && eqb (w ! 1) 0 && eqb (w ! 2) 0)
-    (ltb (w ! 1) FILES && eqb (parent ! 0) DIR && eqb (w ! 2) (parent ! 2 + 1) && leb (w ! 2) DEEPEST)
+-- the root is a DIR with itself as parent and depth 0; any other file has an occupied DIR as parent and a depth one above it
+abbrev pub linkOk : ℕ → List ℕ → List ℕ → Bool
+linkOk o w parent =
+    cond (isRoot o)
+    (eqb (w ! KIND) DIR && eqb (w ! PARENT) ROOT && eqb (w ! DEPTH) 0)
+    (ltb (w ! PARENT) FILES
+    && eqb (parent ! KIND) DIR
+    && eqb (w ! DEPTH) (parent ! DEPTH + 1)
+    && leb (w ! DEPTH) DEEPEST)
 
--- kind, parent, depth, type, initial, forced; beside them the words of the parent
-abbrev pub okFile : ℕ → List ℕ → List ℕ → Bool
-okFile o w parent =
-    cond (eqb (w ! 0) FREE)
-    (eqb (w ! 1) 0 && eqb (w ! 2) 0 && eqb (w ! 3) 0 && eqb (w ! 4) 0 && eqb (w ! 5) 0)
-    (leb (w ! 0) DIR && okType (w ! 3) && okInitial (w ! 4) && okForced (w ! 5) && okLink o w parent)
+-- the words of the place o, and those of its parent
+abbrev pub fileWordsOk : ℕ → List ℕ → List ℕ → Bool
+fileWordsOk o w parent =
+    cond (eqb (w ! KIND) FREE)
+    (eqb (w ! PARENT) 0 && eqb (w ! DEPTH) 0 && eqb (w ! FILE-TYPE) 0 && eqb (w ! INITIAL) 0 && eqb (w ! FORCED) 0)
+    (leb (w ! KIND) DIR && okType (w ! FILE-TYPE) && okInitial (w ! INITIAL) && okForced (w ! FORCED) && linkOk o w parent)
 
 -- ---- the tables
 
 unfoldable pub processOk : List ℕ → ℕ → Bool
-processOk t p = okProcess (block t (processAddr p) 5)
+processOk t p = processWordsOk (block t (processAddr p) PROCESS-WORDS)
 
 unfoldable pub userOk : List ℕ → ℕ → Bool
 userOk t u = ltb (t ! userAddr u) ROLES
 
 unfoldable pub roleOk : List ℕ → ℕ → Bool
-roleOk t r = okRole (block t (roleAddr r) 9)
+roleOk t r = roleWordsOk (block t (roleAddr r) ROLE-WORDS)
 
 unfoldable pub ipcOk : List ℕ → ℕ → Bool
-ipcOk t i = okIpc (block t (ipcAddr i) 2)
+ipcOk t i = ipcWordsOk (block t (ipcAddr i) IPC-WORDS)
 
 unfoldable pub fileOk : List ℕ → ℕ → Bool
-fileOk t o = okFile o (block t (fileAddr o) 6) (block t (fileAddr (block t (fileAddr o) 6 ! 1)) 6)
+fileOk t o =
+    fileWordsOk o (block t (fileAddr o) FILE-WORDS) (block t (fileAddr (block t (fileAddr o) FILE-WORDS ! PARENT)) FILE-WORDS)
 
 -- every table has its full length, every number is in its range, free places hold zeros, process 0 is live, the files are a tree
 unfoldable pub wellFormed : List ℕ → Bool
@@ -89,5 +81,5 @@ wellFormed t =
     && allBelow ROLES (roleOk t)
     && allBelow IPCS (ipcOk t)
     && allBelow FILES (fileOk t)
-    && occupied t PROCESS 0
-    && occupied t FILESYSTEM 0
+    && occupied t PROCESS FIRST-PROCESS
+    && occupied t FILESYSTEM ROOT

@@ -2,6 +2,7 @@
 // Their meaning is in specs/, in the order of the scope document.
 use sets::RoleSet;
 
+pub mod layout;
 pub mod numbers;
 
 // What stands at a file place.
@@ -67,33 +68,21 @@ pub struct Role {
 
 // What a process asks of the monitor; who asks stands beside it.
 pub enum Call {
-    Access {
-        group: u32,
-        object: u32,
-        right: u32,
-    },
+    Access { group: u32, object: u32, right: u32 },
     Clone,
     Exit,
-    Execute {
-        file: u32,
-    },
-    ChangeOwner {
-        user: u32,
-    },
-    ChangeRole {
-        role: u32,
-    },
-    Create {
-        kind: u32,
-        parent: u32,
-    },
-    Delete {
-        file: u32,
-    },
+    Execute { file: u32 },
+    ChangeOwner { user: u32 },
+    ChangeRole { role: u32 },
+    Create { kind: u32, parent: u32 },
+    Delete { file: u32 },
     CreateIpc,
-    DeleteIpc {
-        object: u32,
-    },
+    DeleteIpc { object: u32 },
+    Administer { change: Change },
+}
+
+// What an administration call asks for.
+pub enum Change {
     AddRole {
         set: u32,
         role: u32,

@@ -15,7 +15,10 @@ pub const FILES: u32 = 256;
 
 pub const IPCS: u32 = 64;
 
+// Depths are 0 to 15.
 pub const DEEPEST: u32 = 15;
+
+pub const DEPTHS: u32 = 16;
 
 // The three groups of types.
 pub const FILESYSTEM: u32 = 0;
@@ -74,33 +77,31 @@ pub const RIGHTS: u32 = 32;
 // Which of a role's three sets, which of its five default types.
 pub const COMPATIBLE_ROLES: u32 = 0;
 
+pub const ADMIN_ROLES: u32 = 1;
+
+pub const ASSIGN_ROLES: u32 = 2;
+
 pub const ROLE_SETS: u32 = 3;
 
-pub const CHOWN_TYPE: u32 = 3;
+pub const FILE_CREATE: u32 = 0;
 
-pub const IPC_TYPE: u32 = 4;
+pub const PROCESS_CREATE: u32 = 1;
+
+pub const PROCESS_EXECUTE: u32 = 2;
+
+pub const PROCESS_CHOWN: u32 = 3;
+
+pub const IPC_CREATE: u32 = 4;
 
 pub const DEFAULT_TYPES: u32 = 5;
 
-// Where the tables lie in the row, and how many words a record of each has.
-pub const PROCESS_WORDS: usize = 5;
+// The places that are never removed, and what inherit parent reads as at the root.
+pub const FIRST_PROCESS: u32 = 0;
 
-pub const USERS_AT: usize = 320;
+pub const ROOT: u32 = 0;
 
-pub const ROLES_AT: usize = 352;
+pub const ROOT_TYPE: u32 = 0;
 
-pub const ROLE_WORDS: usize = 9;
+pub const ROOT_INITIAL: u32 = USE_FORCED_ROLE;
 
-pub const IPCS_AT: usize = 640;
-
-pub const IPC_WORDS: usize = 2;
-
-pub const FILES_AT: usize = 768;
-
-pub const FILE_WORDS: usize = 6;
-
-pub const RIGHTS_AT: usize = 2304;
-
-pub const GROUP_RIGHTS: usize = 1024;
-
-pub const ROW_LENGTH: usize = 5376;
+pub const ROOT_FORCED: u32 = UP_MIXED;

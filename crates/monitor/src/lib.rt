@@ -1,16 +1,11 @@
-// The monitor: one entry for any call. It tests the tables once, then does the call; its contract is the definition itself.
-use administration::objects::set_forced;
-use administration::objects::set_initial;
-use administration::objects::set_process_forced;
-use administration::objects::set_type;
-use administration::roles::change_right;
-use administration::roles::change_set;
-use administration::roles::set_default_type;
-use administration::roles::set_role_admin;
-use administration::roles::set_user_role;
+// The monitor: one entry for any call. It tests the tables once, then the caller and the call's numbers once, then does the call; its contract
+// is the definition itself.
+use administration::administer;
+use caller::caller_no;
 use formed::well_formed;
 use model::Answer;
 use model::Call;
+use model::layout::ROW_LENGTH;
 use objects::access::access;
 use objects::files::create;
 use objects::files::delete;
@@ -21,16 +16,14 @@ use processes::change_role;
 use processes::clone;
 use processes::execute;
 use processes::exit;
-use rules::refusal::refused;
+use rules::refusal::refusal;
 ghost use mathlib.Core.Path.{_≡_};
-ghost use Rattle.model.specs.Outcome.{outcome};
-ghost use Rattle.model.specs.Step.{act as actOf, step as stepOf};
+ghost use Rattle.model.specs.Outcome.{outcome, carryOut};
+ghost use Rattle.model.specs.Step.{ruling, act as actOf, step as stepOf};
 
-pub mod calls;
-
-// A call on tables that are known to be well formed; on any others it still answers and leaves what `act` says.
-pub fn act(t: &mut [u32], caller: u32, call: Call) -> Answer
-    ensures { λ r. ⌜ outcome r (now (t .exit)) ≡ actOf (now (t .entry)) caller call ⌝ }
+// What the rules say of a call by a live caller with numbers in range.
+fn carry_out(t: &mut [u32], caller: u32, call: Call) -> Answer
+    ensures { λ r. ⌜ outcome r (now (t .exit)) ≡ carryOut (now (t .entry)) (ruling (now (t .entry)) caller call) ⌝ }
 {
     match call {
         Call::Access {
@@ -47,46 +40,28 @@ pub fn act(t: &mut [u32], caller: u32, call: Call) -> Answer
         Call::Delete { file } => delete(t, caller, file),
         Call::CreateIpc => create_ipc(t, caller),
         Call::DeleteIpc { object } => delete_ipc(t, caller, object),
-        Call::AddRole { set, role, member } => change_set(t, caller, true, set, role, member),
-        Call::RemoveRole { set, role, member } => change_set(t, caller, false, set, role, member),
-        Call::SetUserRole { user, role } => set_user_role(t, caller, user, role),
-        Call::SetInitial { file, value } => set_initial(t, caller, file, value),
-        Call::SetForced { file, value } => set_forced(t, caller, file, value),
-        Call::SetProcessForced { process, value } => set_process_forced(t, caller, process, value),
-        Call::SetDefaultType { which, role, value } => set_default_type(
-            t,
-            caller,
-            which,
-            role,
-            value,
-        ),
-        Call::SetRoleAdmin { role, mark } => set_role_admin(t, caller, role, mark),
-        Call::SetType {
-            group,
-            object,
-            value,
-        } => set_type(t, caller, group, object, value),
-        Call::AddRight {
-            group,
-            role,
-            rctype,
-            right,
-        } => change_right(t, caller, true, group, role, rctype, right),
-        Call::RemoveRight {
-            group,
-            role,
-            rctype,
-            right,
-        } => change_right(t, caller, false, group, role, rctype, right),
+        Call::Administer { change } => administer(t, caller, change),
     }
 }
 
-// A call on any row: tables that are not well formed are number 1.
+// A call on tables that are known to be well formed; on any others it still answers and leaves what `act` says.
+pub fn act(t: &mut [u32], caller: u32, call: Call) -> Answer
+    ensures { λ r. ⌜ outcome r (now (t .exit)) ≡ actOf (now (t .entry)) caller call ⌝ }
+{
+    let number = caller_no(t, caller, call);
+    if number != 0 {
+        return refusal(number);
+    }
+    carry_out(t, caller, call)
+}
+
+// A call on any row: tables that are not well formed are number 1. Well-formed ones have their full length, and are handed on at that length,
+// so that the compiler knows it too.
 pub fn step(t: &mut [u32], caller: u32, call: Call) -> Answer
     ensures { λ r. ⌜ outcome r (now (t .exit)) ≡ stepOf (now (t .entry)) caller call ⌝ }
 {
     if !well_formed(t) {
-        return refused(1);
+        return refusal(1);
     }
-    act(t, caller, call)
+    act(&mut t[..ROW_LENGTH], caller, call)
 }

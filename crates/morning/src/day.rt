@@ -1,5 +1,8 @@
 // The day itself: the processes start, each does its work, and the planner's script does once more what it did that morning.
-use crate::names::ADMINISTRATOR_PROCESS;
+use crate::administrator::clone;
+use crate::asking::access;
+use crate::asking::change_owner;
+use crate::asking::execute;
 use crate::names::KILOPASCALS_LIST;
 use crate::names::METRES_LIST;
 use crate::names::PLANNER_PROCESS;
@@ -13,54 +16,53 @@ use crate::names::VALVES;
 use crate::tell::number;
 use crate::tell::say;
 use crate::tell::scene;
-use crate::tell::tell;
-use effective::queries::query_forced;
-use model::numbers::FILESYSTEM;
+use crate::words;
 use model::numbers::READ;
 use model::numbers::WRITE;
-use monitor::calls;
+use queries::query_forced;
 
 fn start_planner(t: &mut [u32]) {
     scene(b"The planner starts.");
-    tell(
-        b"The administrator clones itself",
-        calls::clone(t, ADMINISTRATOR_PROCESS),
-    );
-    tell(
+    clone(t);
+    change_owner(
+        t,
         b"The clone is handed to the planning user",
-        calls::change_owner(t, PLANNER_PROCESS, PLANNING),
+        PLANNER_PROCESS,
+        PLANNING,
     );
-    tell(
+    execute(
+        t,
         b"The planner runs the planning script",
-        calls::execute(t, PLANNER_PROCESS, PLANNING_SCRIPT),
+        PLANNER_PROCESS,
+        PLANNING_SCRIPT,
     );
 }
 
 fn start_scheduler(t: &mut [u32]) {
     scene(b"The scheduler starts.");
-    tell(
-        b"The administrator clones itself",
-        calls::clone(t, ADMINISTRATOR_PROCESS),
-    );
-    tell(
+    clone(t);
+    change_owner(
+        t,
         b"The clone is handed to the scheduling user",
-        calls::change_owner(t, SCHEDULER_PROCESS, SCHEDULING),
+        SCHEDULER_PROCESS,
+        SCHEDULING,
     );
-    tell(
+    execute(
+        t,
         b"The scheduler runs the scheduler's program",
-        calls::execute(t, SCHEDULER_PROCESS, SCHEDULER_PROGRAM),
+        SCHEDULER_PROCESS,
+        SCHEDULER_PROGRAM,
     );
 }
 
 fn start_valve_driver(t: &mut [u32]) {
     scene(b"The valve driver starts.");
-    tell(
-        b"The administrator clones itself",
-        calls::clone(t, ADMINISTRATOR_PROCESS),
-    );
-    tell(
+    clone(t);
+    change_owner(
+        t,
         b"The clone is handed to the valves' user",
-        calls::change_owner(t, VALVE_PROCESS, VALVES),
+        VALVE_PROCESS,
+        VALVES,
     );
 }
 
@@ -68,50 +70,70 @@ fn start_valve_driver(t: &mut [u32]) {
 fn whence(t: &[u32]) {
     scene(b"Anyone may ask which role the planning script forces on who runs it.");
     let found = query_forced(t, PLANNING_SCRIPT);
-    say(b"  Role ");
-    number(found.value);
-    say(b", the planner's, found ");
+    say(b"  It is ");
+    words::role(found.value);
+    say(b", found ");
     number(found.climbed);
     say(b" directory up: at the directory of planning programs.\n");
 }
 
 fn morning(t: &mut [u32]) {
     scene(b"The morning. The planner means 45 metres of head.");
-    tell(
+    access(
+        t,
         b"The planner's script writes 45 to the list in metres",
-        calls::access(t, PLANNER_PROCESS, FILESYSTEM, METRES_LIST, WRITE),
+        PLANNER_PROCESS,
+        METRES_LIST,
+        WRITE,
     );
-    tell(
+    access(
+        t,
         b"The planner's script writes 45 to the list in kilopascals",
-        calls::access(t, PLANNER_PROCESS, FILESYSTEM, KILOPASCALS_LIST, WRITE),
+        PLANNER_PROCESS,
+        KILOPASCALS_LIST,
+        WRITE,
     );
-    tell(
+    execute(
+        t,
         b"The planner's script runs the scheduler's program instead",
-        calls::execute(t, PLANNER_PROCESS, SCHEDULER_PROGRAM),
+        PLANNER_PROCESS,
+        SCHEDULER_PROGRAM,
     );
 }
 
 fn right_way(t: &mut [u32]) {
     scene(b"The 45 goes the right way: the scheduler makes 441 kilopascals of it.");
-    tell(
+    access(
+        t,
         b"The scheduler reads the list in metres",
-        calls::access(t, SCHEDULER_PROCESS, FILESYSTEM, METRES_LIST, READ),
+        SCHEDULER_PROCESS,
+        METRES_LIST,
+        READ,
     );
-    tell(
+    access(
+        t,
         b"The scheduler writes 441 to the list in kilopascals",
-        calls::access(t, SCHEDULER_PROCESS, FILESYSTEM, KILOPASCALS_LIST, WRITE),
+        SCHEDULER_PROCESS,
+        KILOPASCALS_LIST,
+        WRITE,
     );
-    tell(
+    access(
+        t,
         b"The valve driver reads the list in kilopascals",
-        calls::access(t, VALVE_PROCESS, FILESYSTEM, KILOPASCALS_LIST, READ),
+        VALVE_PROCESS,
+        KILOPASCALS_LIST,
+        READ,
     );
-    tell(
+    access(
+        t,
         b"The valve driver writes to the list in kilopascals",
-        calls::access(t, VALVE_PROCESS, FILESYSTEM, KILOPASCALS_LIST, WRITE),
+        VALVE_PROCESS,
+        KILOPASCALS_LIST,
+        WRITE,
     );
 }
 
-pub fn run(t: &mut [u32]) {
+pub(crate) fn run(t: &mut [u32]) {
     start_planner(t);
     start_scheduler(t);
     start_valve_driver(t);

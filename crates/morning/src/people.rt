@@ -11,7 +11,6 @@ use crate::names::METRES;
 use crate::names::PLANNER;
 use crate::names::PLANNING;
 use crate::names::PLANNING_PROGRAMS;
-use crate::names::PROCESS_CREATE_TYPE;
 use crate::names::SCHEDULER;
 use crate::names::SCHEDULING;
 use crate::names::SCRIPTS;
@@ -21,10 +20,11 @@ use crate::names::VALVE_DRIVER;
 use crate::names::VALVES;
 use crate::tell::scene;
 use model::numbers::CHANGE_OWNER;
-use model::numbers::CHOWN_TYPE;
 use model::numbers::CLONE;
 use model::numbers::CREATE;
 use model::numbers::EXECUTE;
+use model::numbers::PROCESS_CHOWN;
+use model::numbers::PROCESS_CREATE;
 use model::numbers::READ;
 use model::numbers::USE_NEW_ROLE_DEF_CREATE;
 use model::numbers::WRITE;
@@ -47,21 +47,21 @@ fn users(t: &mut [u32]) {
     default_type(
         t,
         b"A planner's processes are scripts",
-        PROCESS_CREATE_TYPE,
+        PROCESS_CREATE,
         PLANNER,
         SCRIPTS,
     );
     default_type(
         t,
         b"A scheduler's processes are services",
-        PROCESS_CREATE_TYPE,
+        PROCESS_CREATE,
         SCHEDULER,
         SERVICES,
     );
     default_type(
         t,
         b"A valve driver's processes are services",
-        PROCESS_CREATE_TYPE,
+        PROCESS_CREATE,
         VALVE_DRIVER,
         SERVICES,
     );
@@ -93,14 +93,13 @@ fn administrator(t: &mut [u32]) {
     default_type(
         t,
         b"A process handed over is of the new role's type",
-        CHOWN_TYPE,
+        PROCESS_CHOWN,
         ADMINISTRATOR,
         USE_NEW_ROLE_DEF_CREATE,
     );
 }
 
-fn work(t: &mut [u32]) {
-    scene(b"The administrator gives each role what its work needs, and no more.");
+fn planner(t: &mut [u32]) {
     file_right(
         t,
         b"The planner may run planning programs",
@@ -115,6 +114,9 @@ fn work(t: &mut [u32]) {
         METRES,
         WRITE,
     );
+}
+
+fn scheduler(t: &mut [u32]) {
     file_right(
         t,
         b"The scheduler may run service programs",
@@ -136,6 +138,9 @@ fn work(t: &mut [u32]) {
         KILOPASCALS,
         WRITE,
     );
+}
+
+fn valve_driver(t: &mut [u32]) {
     file_right(
         t,
         b"The valve driver may read lists in kilopascals",
@@ -145,8 +150,11 @@ fn work(t: &mut [u32]) {
     );
 }
 
-pub fn run(t: &mut [u32]) {
+pub(crate) fn run(t: &mut [u32]) {
     users(t);
     administrator(t);
-    work(t);
+    scene(b"The administrator gives each role what its work needs, and no more.");
+    planner(t);
+    scheduler(t);
+    valve_driver(t);
 }

@@ -73,7 +73,7 @@ fn lists(t: &mut [u32]) {
     );
 }
 
-pub fn run(t: &mut [u32]) {
+pub(crate) fn run(t: &mut [u32]) {
     programs(t);
     program_roles(t);
     lists(t);

@@ -3,16 +3,16 @@ use libc::STDOUT_FILENO;
 use model::Answer;
 use model::Verdict;
 
-pub fn say(text: &[u8]) {
+pub(crate) fn say(text: &[u8]) {
     io::write_all(STDOUT_FILENO, text);
 }
 
-pub fn number(n: u32) {
+pub(crate) fn number(n: u32) {
     io::print_decimal(STDOUT_FILENO, n as u64);
 }
 
 // A scene begins.
-pub fn scene(text: &[u8]) {
+pub(crate) fn scene(text: &[u8]) {
     say(b"\n");
     say(text);
     say(b"\n");
@@ -73,7 +73,7 @@ fn place(n: u32) {
 }
 
 // A call and its answer.
-pub fn tell(text: &[u8], a: Answer) {
+pub(crate) fn tell(text: &[u8], a: Answer) {
     say(b"  ");
     say(text);
     say(b": ");
@@ -101,7 +101,7 @@ fn judged(v: Verdict) {
 }
 
 // A claim and the checker's verdict.
-pub fn verdict(text: &[u8], v: Verdict) {
+pub(crate) fn verdict(text: &[u8], v: Verdict) {
     say(b"  ");
     say(text);
     say(b": ");

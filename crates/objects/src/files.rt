@@ -1,78 +1,79 @@
 // Files and directories: create, delete.
-use caller::caller_no;
 use caller::may;
 use caller::own_role;
-use effective::eff_type;
+use decisions::decide_words;
+use effective::values::value_at;
 use model::Answer;
-use model::File;
-use model::Forced;
-use model::Initial;
-use model::Kind;
+use model::layout::DEPTH;
+use model::layout::FILE_TYPE;
+use model::layout::KIND;
+use model::layout::PARENT;
 use model::numbers::CREATE;
 use model::numbers::DEEPEST;
 use model::numbers::DELETE;
 use model::numbers::DIR;
-use model::numbers::FILE;
 use model::numbers::FILES;
 use model::numbers::FILESYSTEM;
+use model::numbers::ROOT;
 use rules::refusal::first;
-use rules::refusal::granted;
-use rules::refusal::refused;
 use rules::refusal::unless;
 use rules::transitions::created;
+use rules::transitions::free_file;
+use tables::addresses::file_addr;
 use tables::cases::kind_of;
 use tables::places::free_place;
 use tables::places::occupied;
 use tables::records::file_word;
-use tables::records::put_file;
+use tables::records::file_words;
 ghost use mathlib.Core.Path.{_≡_};
 ghost use Rattle.model.specs.declared.Call.{Call};
-ghost use Rattle.model.specs.Calls.{createNo, deleteNo, notChild, childless as childlessOf, removable as removableOf};
-ghost use Rattle.model.specs.Numbers.{FILESYSTEM as FILEGROUP};
-ghost use Rattle.model.specs.Outcome.{outcome};
-ghost use Rattle.model.specs.Records.{freePlace};
-ghost use Rattle.model.specs.Step.{act};
+ghost use Rattle.model.specs.Outcome.{outcome, carryOut};
+ghost use Rattle.model.specs.Calls.{deleteNo, notChild, childless as childlessOf, removable as removableOf};
+ghost use Rattle.model.specs.Step.{ruling};
+ghost use Rattle.objects.specs.Depth.{oneDeeper};
 
-// CREATE to the effective type of the parent DIR, room below it, and a place: the number, and that place.
-fn create_no(t: &[u32], caller: u32, kind: u32, parent: u32) -> Answer
-    ensures { λ r. ⌜ r ≡ record { number = createNo (now (t .entry)) caller kind parent; place = freePlace (now (t .entry)) FILEGROUP } ⌝ }
+// The depth of what lies in a DIR that has room below it.
+fn one_deeper(depth: u32) -> u32
+    ensures { λ r. ⌜ r ≡ oneDeeper depth ⌝ }
+{
+    if depth < DEEPEST { depth + 1 } else { depth }
+}
+
+// CREATE to the effective type of the parent DIR; the lowest free place, one level below the parent, with own role's file create type (rule 6).
+pub fn create(t: &mut [u32], caller: u32, kind: u32, parent: u32) -> Answer
+    ensures { λ r. ⌜ outcome r (now (t .exit)) ≡ carryOut (now (t .entry)) (ruling (now (t .entry)) caller (Call.Create kind parent)) ⌝ }
 {
     let place = free_place(t, FILESYSTEM);
-    let ranged = ((kind == FILE) | (kind == DIR)) & (parent < FILES);
-    let allowed = may(t, caller, FILESYSTEM, eff_type(t, parent).value, CREATE);
-    let room = first(
-        unless(7, file_word(t, parent, 2) < DEEPEST),
-        unless(8, place < FILES),
+    let depth = file_word(t, parent, DEPTH);
+    let allowed = may(
+        t,
+        caller,
+        FILESYSTEM,
+        value_at(t, FILE_TYPE, parent),
+        CREATE,
     );
+    let room = first(unless(7, depth < DEEPEST), unless(8, place < FILES));
     let number = first(
-        caller_no(t, caller, ranged),
-        first(
-            unless(4, file_word(t, parent, 0) == DIR),
-            first(unless(5, allowed), room),
-        ),
+        unless(4, file_word(t, parent, KIND) == DIR),
+        first(unless(5, allowed), room),
     );
-    Answer { number, place }
+    let file = file_words(created(
+        own_role(t, caller),
+        kind_of(kind),
+        parent,
+        one_deeper(depth),
+    ));
+    decide_words(t, number, place, file_addr(place), &file)
 }
 
-// The lowest free place, one level below the parent, with own role's file create type (rule 6).
-pub fn create(t: &mut [u32], caller: u32, kind: u32, parent: u32) -> Answer
-    ensures { λ r. ⌜ outcome r (now (t .exit)) ≡ act (now (t .entry)) caller (Call.Create kind parent) ⌝ }
-{
-    let found = create_no(t, caller, kind, parent);
-    if found.number != 0 {
-        return refused(found.number);
-    }
-    let depth = file_word(t, parent, 2) + 1;
-    let file = created(own_role(t, caller), kind_of(kind), parent, depth);
-    put_file(t, found.place, file);
-    granted(found.place)
-}
-
-// Whether place q holds no child of o: the root is nobody's child.
+// Whether place q holds no child of o: a root is nobody's child. Hardly any place names o as its parent, so that is asked first.
 fn not_child(t: &[u32], o: u32, q: u32) -> bool
     ensures { λ r. ⌜ r ≡ notChild (now (t .entry)) o q ⌝ }
 {
-    (q == 0) | !occupied(t, FILESYSTEM, q) | (file_word(t, q, 1) != o)
+    if file_word(t, q, PARENT) != o {
+        return true;
+    }
+    (q == ROOT) | !occupied(t, FILESYSTEM, q)
 }
 
 // Whether no place holds a child of o.
@@ -93,10 +94,10 @@ fn childless(t: &[u32], o: u32) -> bool
 fn removable(t: &[u32], o: u32) -> bool
     ensures { λ r. ⌜ r ≡ removableOf (now (t .entry)) o ⌝ }
 {
-    if file_word(t, o, 0) == DIR {
-        (o != 0) & childless(t, o)
+    if file_word(t, o, KIND) == DIR {
+        (o != ROOT) & childless(t, o)
     } else {
-        o != 0
+        o != ROOT
     }
 }
 
@@ -104,36 +105,19 @@ fn removable(t: &[u32], o: u32) -> bool
 fn delete_no(t: &[u32], caller: u32, file: u32) -> u32
     ensures { λ r. ⌜ r ≡ deleteNo (now (t .entry)) caller file ⌝ }
 {
-    let allowed = may(t, caller, FILESYSTEM, eff_type(t, file).value, DELETE);
+    let allowed = may(t, caller, FILESYSTEM, value_at(t, FILE_TYPE, file), DELETE);
     let removes = removable(t, file);
     first(
-        caller_no(t, caller, file < FILES),
-        first(
-            unless(4, occupied(t, FILESYSTEM, file)),
-            first(unless(5, allowed), unless(6, removes)),
-        ),
+        unless(4, occupied(t, FILESYSTEM, file)),
+        first(unless(5, allowed), unless(6, removes)),
     )
 }
 
 // The place becomes free.
 pub fn delete(t: &mut [u32], caller: u32, file: u32) -> Answer
-    ensures { λ r. ⌜ outcome r (now (t .exit)) ≡ act (now (t .entry)) caller (Call.Delete file) ⌝ }
+    ensures { λ r. ⌜ outcome r (now (t .exit)) ≡ carryOut (now (t .entry)) (ruling (now (t .entry)) caller (Call.Delete file)) ⌝ }
 {
-    let no = delete_no(t, caller, file);
-    if no != 0 {
-        return refused(no);
-    }
-    put_file(
-        t,
-        file,
-        File {
-            kind: Kind::Free,
-            parent: 0,
-            depth: 0,
-            rctype: 0,
-            initial: Initial::Plain(0),
-            forced: Forced::Plain(0),
-        },
-    );
-    granted(0)
+    let number = delete_no(t, caller, file);
+    let free = file_words(free_file());
+    decide_words(t, number, 0, file_addr(file), &free)
 }

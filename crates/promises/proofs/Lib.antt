@@ -1,1 +1,9 @@
-pub mod Promises
+pub mod First
+pub mod Numbers
+pub mod Claims
+pub mod Changes
+pub mod Policy
+pub mod Formed
+pub mod Effective
+pub mod Coincide
+pub mod Confined

@@ -1,1 +1,1 @@
-// What the monitor promises, as theorems named as sentences, is in proofs/Promises.antt: this crate has no code.
+// What the monitor promises: the statements are in specs/Promises.antt, their proofs in proofs/. This crate has no code.

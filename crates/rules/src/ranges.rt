@@ -1,17 +1,21 @@
-// The ranges of values ("Tables"; number 2 where a call's value is outside).
-use model::numbers::CHOWN_TYPE;
+// The ranges of values ("Tables").
+use model::numbers::FILES;
 use model::numbers::FILESYSTEM;
 use model::numbers::INHERIT_PARENT;
 use model::numbers::INHERIT_USER;
-use model::numbers::IPC_TYPE;
+use model::numbers::IPC_CREATE;
+use model::numbers::IPCS;
+use model::numbers::PROCESS;
+use model::numbers::PROCESS_CHOWN;
+use model::numbers::PROCESSES;
 use model::numbers::ROLES;
 use model::numbers::TYPES;
 use model::numbers::UP_MIXED;
 use model::numbers::USE_FORCED_ROLE;
 use model::numbers::USE_NEW_ROLE_DEF_CREATE;
 ghost use mathlib.Core.Path.{_≡_};
-ghost use Rattle.model.specs.WellFormed.{okType, okChown, okInitial, okForced, okProcessForced};
-ghost use Rattle.model.specs.Administration.{okDefault, okTypeIn};
+ghost use Rattle.model.specs.Numbers.{places as placesOf};
+ghost use Rattle.model.specs.Ranges.{okType, okChown, okInitial, okForced, okProcessForced, okDefault, okTypeIn};
 
 // File type and create, process create and execute: 0 to 32.
 pub fn ok_type(v: u32) -> bool
@@ -52,9 +56,9 @@ pub fn ok_process_forced(v: u32) -> bool
 pub fn ok_default(which: u32, v: u32) -> bool
     ensures { λ r. ⌜ r ≡ okDefault which v ⌝ }
 {
-    if which == IPC_TYPE {
+    if which == IPC_CREATE {
         v < TYPES
-    } else if which == CHOWN_TYPE {
+    } else if which == PROCESS_CHOWN {
         ok_chown(v)
     } else {
         ok_type(v)
@@ -69,5 +73,18 @@ pub fn ok_type_in(group: u32, v: u32) -> bool
         ok_type(v)
     } else {
         v < TYPES
+    }
+}
+
+// How many places the objects of a group have.
+pub fn places(group: u32) -> u32
+    ensures { λ r. ⌜ r ≡ placesOf group ⌝ }
+{
+    if group == FILESYSTEM {
+        FILES
+    } else if group == PROCESS {
+        PROCESSES
+    } else {
+        IPCS
     }
 }

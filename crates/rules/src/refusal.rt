@@ -17,8 +17,8 @@ pub fn first(n: u32, m: u32) -> u32
     if n == 0 { m } else { n }
 }
 
-// A refusal names no place.
-pub fn refused(n: u32) -> Answer
+// The answer of a refusal names no place.
+pub fn refusal(n: u32) -> Answer
     ensures { λ r. ⌜ r ≡ record { number = n; place = 0 } ⌝ }
 {
     Answer {
@@ -27,8 +27,8 @@ pub fn refused(n: u32) -> Answer
     }
 }
 
-// A grant has number 0.
-pub fn granted(place: u32) -> Answer
+// The answer of a grant has number 0.
+pub fn grant(place: u32) -> Answer
     ensures { λ r. ⌜ r ≡ record { number = 0; place = place } ⌝ }
 {
     Answer { number: 0, place }

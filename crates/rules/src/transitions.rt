@@ -2,12 +2,14 @@
 use model::File;
 use model::Forced;
 use model::Initial;
+use model::Ipc;
 use model::Kind;
 use model::Process;
 use model::Role;
 use model::numbers::INHERIT_PARENT;
 use model::numbers::USE_NEW_ROLE_DEF_CREATE;
 ghost use mathlib.Core.Path.{_≡_};
+ghost use Rattle.model.specs.Records.{freeProcess, freeFile, freeIpc};
 ghost use Rattle.model.specs.Transitions.{defaultOr, chownType, forcedRole, initialRole, chownRole, cloned as clonedOf, executed as executedOf, chowned as chownedOf, withRole, created as createdOf};
 
 // Rules 8 and 10: the default type, or the present one where that is inherit parent.
@@ -116,10 +118,14 @@ pub fn chowned(own: Role, user: u32, role: u32, create: u32, me: Process) -> Pro
 pub fn with_role(role: u32, me: Process) -> Process
     ensures { λ r. ⌜ r ≡ withRole role me ⌝ }
 {
-    let mut after = me;
-    after.live = true;
-    after.role = role;
-    after
+    let kept = me.forced;
+    Process {
+        live: true,
+        owner: me.owner,
+        role,
+        rctype: me.rctype,
+        forced: kept,
+    }
 }
 
 // Rule 6: a new file or directory; initial and forced inherit parent.
@@ -133,5 +139,42 @@ pub fn created(own: Role, kind: Kind, parent: u32, depth: u32) -> File
         rctype: own.filecreate,
         initial: Initial::InheritParent,
         forced: Forced::InheritParent,
+    }
+}
+
+// A free place holds zeros only: a process's,
+pub fn free_process() -> Process
+    ensures { λ r. ⌜ r ≡ freeProcess ⌝ }
+{
+    Process {
+        live: false,
+        owner: 0,
+        role: 0,
+        rctype: 0,
+        forced: Forced::Plain(0),
+    }
+}
+
+// a file's,
+pub fn free_file() -> File
+    ensures { λ r. ⌜ r ≡ freeFile ⌝ }
+{
+    File {
+        kind: Kind::Free,
+        parent: 0,
+        depth: 0,
+        rctype: 0,
+        initial: Initial::Plain(0),
+        forced: Forced::Plain(0),
+    }
+}
+
+// an IPC object's.
+pub fn free_ipc() -> Ipc
+    ensures { λ r. ⌜ r ≡ freeIpc ⌝ }
+{
+    Ipc {
+        live: false,
+        rctype: 0,
     }
 }

@@ -10,8 +10,9 @@ use lib.ListN.{length}
 use lib.Seq.{set-out}
 use Rattle.sets.specs.Below.{firstBelow}
 use Rattle.sets.proofs.Below.{first-same}
+use Rattle.model.specs.Numbers.{places}
 use Rattle.model.specs.Words.{_!_, putFrom, put}
-use Rattle.model.specs.Records.{places, placeAddr, occupied, freePlace}
+use Rattle.model.specs.Records.{placeAddr, occupied, freePlace}
 
 from-out : (vs t : List ℕ) (a k : ℕ) → length t ≤ a → putFrom t a k vs ≡ t
 from-out [] t a k h = refl

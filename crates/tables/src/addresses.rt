@@ -1,23 +1,24 @@
 // Where the record of each place begins in the row; any number has an address, also past its table.
-use model::numbers::FILE_WORDS;
-use model::numbers::FILES_AT;
-use model::numbers::GROUP_RIGHTS;
-use model::numbers::IPC_WORDS;
-use model::numbers::IPCS_AT;
-use model::numbers::PROCESS_WORDS;
-use model::numbers::RIGHTS_AT;
-use model::numbers::ROLE_WORDS;
-use model::numbers::ROLES_AT;
+use model::layout::FILE_WORDS;
+use model::layout::FILES_AT;
+use model::layout::GROUP_RIGHTS;
+use model::layout::IPC_WORDS;
+use model::layout::IPCS_AT;
+use model::layout::PROCESS_WORDS;
+use model::layout::PROCESSES_AT;
+use model::layout::RIGHTS_AT;
+use model::layout::ROLE_WORDS;
+use model::layout::ROLES_AT;
+use model::layout::USERS_AT;
 use model::numbers::TYPES;
-use model::numbers::USERS_AT;
 ghost use mathlib.Core.Path.{_≡_};
-ghost use Rattle.model.specs.Records.{processAddr, userAddr, roleAddr, ipcAddr, fileAddr, rightsAddr};
+ghost use Rattle.model.specs.Layout.{processAddr, userAddr, roleAddr, ipcAddr, fileAddr, rightsAddr};
 
 // Live, owner, role, type, forced.
 pub fn process_addr(p: u32) -> usize
     ensures { λ r. ⌜ r ≡ processAddr p ⌝ }
 {
-    (p as usize) * PROCESS_WORDS
+    PROCESSES_AT + (p as usize) * PROCESS_WORDS
 }
 
 // The default role.

@@ -3,35 +3,23 @@ use crate::addresses::file_addr;
 use crate::addresses::ipc_addr;
 use crate::addresses::process_addr;
 use crate::words::word;
-use model::numbers::FILE_WORDS;
+use model::layout::FILE_WORDS;
+use model::layout::FILES_AT;
+use model::layout::IPC_WORDS;
+use model::layout::IPCS_AT;
+use model::layout::PROCESS_WORDS;
+use model::layout::PROCESSES_AT;
 use model::numbers::FILES;
-use model::numbers::FILES_AT;
 use model::numbers::FILESYSTEM;
-use model::numbers::IPC_WORDS;
 use model::numbers::IPCS;
-use model::numbers::IPCS_AT;
 use model::numbers::PROCESS;
-use model::numbers::PROCESS_WORDS;
 use model::numbers::PROCESSES;
 ghost use mathlib.Core.Path.{_≡_};
 ghost use Prim.Native.Nat.{_+_, _*_};
 ghost use lib.Dec.{eqb};
 ghost use Rattle.sets.specs.Below.{firstBelow};
 ghost use Rattle.model.specs.Words.{_!_};
-ghost use Rattle.model.specs.Records.{places as placesOf, placeAddr, occupied as occupiedOf, freePlace};
-
-// How many there are.
-pub fn places(group: u32) -> u32
-    ensures { λ r. ⌜ r ≡ placesOf group ⌝ }
-{
-    if group == FILESYSTEM {
-        FILES
-    } else if group == PROCESS {
-        PROCESSES
-    } else {
-        IPCS
-    }
-}
+ghost use Rattle.model.specs.Records.{placeAddr, occupied as occupiedOf, freePlace};
 
 // Where the record of a place begins.
 pub fn place_addr(group: u32, p: u32) -> usize
@@ -76,7 +64,7 @@ pub fn free_place(t: &[u32], group: u32) -> u32
     if group == FILESYSTEM {
         lowest_free(t, FILES_AT as u32, FILE_WORDS as u32, FILES)
     } else if group == PROCESS {
-        lowest_free(t, 0, PROCESS_WORDS as u32, PROCESSES)
+        lowest_free(t, PROCESSES_AT as u32, PROCESS_WORDS as u32, PROCESSES)
     } else {
         lowest_free(t, IPCS_AT as u32, IPC_WORDS as u32, IPCS)
     }

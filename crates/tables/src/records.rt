@@ -1,4 +1,4 @@
-// The records of the tables, by value: each is loaded from its words and stored as its words.
+// The records of the tables, by value: each is loaded from its words, and is the words that it is kept in.
 use crate::addresses::file_addr;
 use crate::addresses::ipc_addr;
 use crate::addresses::process_addr;
@@ -7,21 +7,39 @@ use crate::addresses::role_addr;
 use crate::addresses::user_addr;
 use crate::cases::forced_of;
 use crate::cases::forced_word;
-use crate::cases::initial_of;
 use crate::cases::initial_word;
-use crate::cases::kind_of;
 use crate::cases::kind_word;
-use crate::words::put_words;
+use crate::words::set_at;
 use crate::words::word;
 use model::File;
 use model::Ipc;
 use model::Process;
 use model::Role;
-use sets::RoleSet;
+use model::layout::DEFAULTS;
+use model::layout::FILE_WORDS;
+use model::layout::IPC_LIVE;
+use model::layout::IPC_TYPE;
+use model::layout::IPC_WORDS;
+use model::layout::LIVE;
+use model::layout::MARK;
+use model::layout::OWNER;
+use model::layout::PROCESS_FORCED;
+use model::layout::PROCESS_TYPE;
+use model::layout::PROCESS_WORDS;
+use model::layout::ROLE;
+use model::numbers::ADMIN_ROLES;
+use model::numbers::ASSIGN_ROLES;
+use model::numbers::COMPATIBLE_ROLES;
+use model::numbers::FILE_CREATE;
+use model::numbers::IPC_CREATE;
+use model::numbers::PROCESS_CHOWN;
+use model::numbers::PROCESS_CREATE;
+use model::numbers::PROCESS_EXECUTE;
 ghost use mathlib.Core.Path.{_≡_};
 ghost use Rattle.model.specs.Numbers.{TYPES};
 ghost use Rattle.model.specs.Words.{block};
-ghost use Rattle.model.specs.Records.{rightsAddr, processAt, putProcess, fileAt, putFile, fileWord, ipcAt, putIpc, roleAt, userRole, hasRight};
+ghost use Rattle.model.specs.Layout.{rightsAddr};
+ghost use Rattle.model.specs.Records.{processAt, processWords, fileWords, fileWord, ipcAt, ipcWords, roleAt, userRole, hasRight};
 
 // The process at place p.
 pub fn process_at(t: &[u32], p: u32) -> Process
@@ -29,58 +47,41 @@ pub fn process_at(t: &[u32], p: u32) -> Process
 {
     let a = process_addr(p);
     Process {
-        live: word(t, a) == 1,
-        owner: word(t, a + 1),
-        role: word(t, a + 2),
-        rctype: word(t, a + 3),
-        forced: forced_of(word(t, a + 4)),
+        live: word(t, a + LIVE) == 1,
+        owner: word(t, a + OWNER),
+        role: word(t, a + ROLE),
+        rctype: word(t, a + PROCESS_TYPE),
+        forced: forced_of(word(t, a + PROCESS_FORCED)),
     }
 }
 
-// The row with process v at place p.
-pub fn put_process(t: &mut [u32], p: u32, v: Process)
-    ensures { λ _. ⌜ now (t .exit) ≡ putProcess (now (t .entry)) p v ⌝ }
+// The words of a process.
+pub fn process_words(v: Process) -> [u32; PROCESS_WORDS]
+    ensures { λ r. ⌜ r ≡ processWords v ⌝ }
 {
     let live = v.live as u32;
     let forced = v.forced;
-    let vs = [live, v.owner, v.role, v.rctype, forced_word(forced)];
-    put_words(t, process_addr(p), &vs);
+    [live, v.owner, v.role, v.rctype, forced_word(forced)]
 }
 
-// The file at place o.
-pub fn file_at(t: &[u32], o: u32) -> File
-    ensures { λ r. ⌜ r ≡ fileAt (now (t .entry)) o ⌝ }
-{
-    let a = file_addr(o);
-    File {
-        kind: kind_of(word(t, a)),
-        parent: word(t, a + 1),
-        depth: word(t, a + 2),
-        rctype: word(t, a + 3),
-        initial: initial_of(word(t, a + 4)),
-        forced: forced_of(word(t, a + 5)),
-    }
-}
-
-// The row with file v at place o.
-pub fn put_file(t: &mut [u32], o: u32, v: File)
-    ensures { λ _. ⌜ now (t .exit) ≡ putFile (now (t .entry)) o v ⌝ }
+// The words of a file.
+pub fn file_words(v: File) -> [u32; FILE_WORDS]
+    ensures { λ r. ⌜ r ≡ fileWords v ⌝ }
 {
     let kind = v.kind;
     let initial = v.initial;
     let forced = v.forced;
-    let vs = [
+    [
         kind_word(kind),
         v.parent,
         v.depth,
         v.rctype,
         initial_word(initial),
         forced_word(forced),
-    ];
-    put_words(t, file_addr(o), &vs);
+    ]
 }
 
-// One word of a file: 0 kind, 1 parent, 2 depth, 3 type, 4 initial, 5 forced.
+// One word of a file, by its name in the layout.
 pub fn file_word(t: &[u32], o: u32, slot: u32) -> u32
     ensures { λ r. ⌜ r ≡ fileWord (now (t .entry)) o slot ⌝ }
 {
@@ -93,18 +94,17 @@ pub fn ipc_at(t: &[u32], i: u32) -> Ipc
 {
     let a = ipc_addr(i);
     Ipc {
-        live: word(t, a) == 1,
-        rctype: word(t, a + 1),
+        live: word(t, a + IPC_LIVE) == 1,
+        rctype: word(t, a + IPC_TYPE),
     }
 }
 
-// The row with IPC object v at place i.
-pub fn put_ipc(t: &mut [u32], i: u32, v: Ipc)
-    ensures { λ _. ⌜ now (t .exit) ≡ putIpc (now (t .entry)) i v ⌝ }
+// The words of an IPC object.
+pub fn ipc_words(v: Ipc) -> [u32; IPC_WORDS]
+    ensures { λ r. ⌜ r ≡ ipcWords v ⌝ }
 {
     let live = v.live as u32;
-    let vs = [live, v.rctype];
-    put_words(t, ipc_addr(i), &vs);
+    [live, v.rctype]
 }
 
 // A role's sets, mark and default types; past the last role any number reads what stands there.
@@ -113,19 +113,15 @@ pub fn role_at(t: &[u32], role: u32) -> Role
 {
     let a = role_addr(role);
     Role {
-        compatible: RoleSet { bits: word(t, a) },
-        admin: RoleSet {
-            bits: word(t, a + 1),
-        },
-        assign: RoleSet {
-            bits: word(t, a + 2),
-        },
-        mark: word(t, a + 3) == 1,
-        filecreate: word(t, a + 4),
-        processcreate: word(t, a + 5),
-        execute: word(t, a + 6),
-        chown: word(t, a + 7),
-        ipccreate: word(t, a + 8),
+        compatible: set_at(t, a + (COMPATIBLE_ROLES as usize)),
+        admin: set_at(t, a + (ADMIN_ROLES as usize)),
+        assign: set_at(t, a + (ASSIGN_ROLES as usize)),
+        mark: word(t, a + MARK) == 1,
+        filecreate: word(t, a + (DEFAULTS + (FILE_CREATE as usize))),
+        processcreate: word(t, a + (DEFAULTS + (PROCESS_CREATE as usize))),
+        execute: word(t, a + (DEFAULTS + (PROCESS_EXECUTE as usize))),
+        chown: word(t, a + (DEFAULTS + (PROCESS_CHOWN as usize))),
+        ipccreate: word(t, a + (DEFAULTS + (IPC_CREATE as usize))),
     }
 }
 
@@ -140,10 +136,7 @@ pub fn user_role(t: &[u32], u: u32) -> u32
 pub fn has_right(t: &[u32], group: u32, role: u32, rctype: u32, right: u32) -> bool
     ensures { λ r. ⌜ r ≡ hasRight (now (t .entry)) group role rctype right ⌝ }
 {
-    let rights = RoleSet {
-        bits: word(t, rights_addr(group, role, rctype)),
-    };
-    rights.has(right)
+    set_at(t, rights_addr(group, role, rctype)).has(right)
 }
 
 // A role's row of sets of rights, one for each type of a group.

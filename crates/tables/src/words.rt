@@ -1,13 +1,22 @@
-// A word of the row. A read past the end is 0 and a write past the end is nothing, so that no caller has to show a bound.
+// A word of a row. A read past the end is 0 and a write past the end is nothing, so that no caller has to show a bound.
+use sets::RoleSet;
 ghost use mathlib.Core.Path.{_≡_};
 ghost use lib.ListN.{set};
 ghost use Rattle.model.specs.Words.{_!_, put};
+ghost use Rattle.model.specs.Records.{setOf};
 
 // The word at a.
 pub fn word(t: &[u32], a: usize) -> u32
     ensures { λ r. ⌜ r ≡ now (t .entry) ! a ⌝ }
 {
     if a < t.len() { t[a] } else { 0 }
+}
+
+// The set kept in the word at a.
+pub fn set_at(t: &[u32], a: usize) -> RoleSet
+    ensures { λ r. ⌜ r ≡ setOf (now (t .entry) ! a) ⌝ }
+{
+    RoleSet { bits: word(t, a) }
 }
 
 // The row with v at a.

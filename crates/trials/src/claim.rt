@@ -1,13 +1,13 @@
 // Claims: a10, and the numbers that a claim may get.
 use crate::tell::line;
 use crate::tell::part;
-use claimroles::row::CLAIM_LENGTH;
-use claimroles::row::PROCESS_AT;
-use claimroles::row::Q_AT;
-use claimroles::row::S_AT;
 use claims::check;
-use formed::fresh;
+use formed::build_fresh;
 use model::Verdict;
+use model::layout::CLAIM_LENGTH;
+use model::layout::CLAIM_PROCESS;
+use model::layout::CLAIM_Q;
+use model::layout::CLAIM_S;
 use model::numbers::PROCESSES;
 use sets::RoleSet;
 use tables::words::set_word;
@@ -20,15 +20,15 @@ fn judged(text: &[u8], v: Verdict) {
 // A claim for a process and file type 0, with every T empty.
 fn claim(text: &[u8], t: &[u32], process: u32, s: RoleSet, q: RoleSet) {
     let mut w = [0u32; CLAIM_LENGTH];
-    set_word(&mut w, PROCESS_AT, process);
-    set_word(&mut w, S_AT, s.bits);
-    set_word(&mut w, Q_AT, q.bits);
+    set_word(&mut w, CLAIM_PROCESS, process);
+    set_word(&mut w, CLAIM_S, s.bits);
+    set_word(&mut w, CLAIM_Q, q.bits);
     judged(text, check(t, &w));
 }
 
 // a10, which gives number 9.
-pub fn example(t: &mut [u32]) {
-    fresh(t);
+pub(crate) fn example(t: &mut [u32]) {
+    build_fresh(t);
     let none = RoleSet { bits: 0 };
     let zero = none.add(0);
     claim(b"a10 claim for process 0 with S empty: ", t, 0, none, none);
@@ -41,8 +41,8 @@ pub fn example(t: &mut [u32]) {
     );
 }
 
-pub fn numbers(t: &mut [u32]) {
-    fresh(t);
+pub(crate) fn numbers(t: &mut [u32]) {
+    build_fresh(t);
     let none = RoleSet { bits: 0 };
     judged(b"number 1, a claim of no words: ", check(t, &[0u32; 0]));
     claim(

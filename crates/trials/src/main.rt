@@ -1,16 +1,17 @@
 // What the scope document asks to be run: the marked examples, every table filled to its last place, and each number once.
 // A line tells a trial and what it came to; every group of trials begins with fresh tables.
-use model::numbers::ROW_LENGTH;
+use model::layout::ROW_LENGTH;
 
+mod administrator;
 mod claim;
-mod examples;
 mod full;
+mod marked;
 mod numbers;
 mod tell;
 
 fn main() {
     let mut t = [0u32; ROW_LENGTH];
-    examples::run(&mut t);
+    marked::run(&mut t);
     claim::example(&mut t);
     full::run(&mut t);
     numbers::run(&mut t);

@@ -5,37 +5,37 @@ use model::Found;
 use tables::cases::forced_word;
 use tables::records::process_at;
 
-pub fn say(text: &[u8]) {
+fn say(text: &[u8]) {
     io::write_all(STDOUT_FILENO, text);
 }
 
 // Words and a number after them.
-pub fn part(text: &[u8], n: u32) {
+pub(crate) fn part(text: &[u8], n: u32) {
     say(text);
     io::print_decimal(STDOUT_FILENO, n as u64);
 }
 
 // The last words of a line and a number after them; a trial that comes to one number has no others.
-pub fn line(text: &[u8], n: u32) {
+pub(crate) fn line(text: &[u8], n: u32) {
     part(text, n);
     say(b"\n");
 }
 
 // A trial whose answer carries a place.
-pub fn placed(text: &[u8], a: Answer) {
+pub(crate) fn placed(text: &[u8], a: Answer) {
     part(text, a.number);
     line(b", place ", a.place);
 }
 
 // A trial of a query.
-pub fn climbed(text: &[u8], found: Found) {
+pub(crate) fn climbed(text: &[u8], found: Found) {
     part(text, found.number);
     part(b", value ", found.value);
     line(b", parents climbed ", found.climbed);
 }
 
 // A trial that comes to what a process then is.
-pub fn process(text: &[u8], t: &[u32], p: u32) {
+pub(crate) fn process(text: &[u8], t: &[u32], p: u32) {
     let found = process_at(t, p);
     let forced = found.forced;
     say(text);
@@ -45,13 +45,13 @@ pub fn process(text: &[u8], t: &[u32], p: u32) {
 }
 
 // How often a call was granted, and the number that the next one got.
-pub fn counted(n: u32, text: &[u8], next: u32) {
+pub(crate) fn counted(n: u32, text: &[u8], next: u32) {
     io::print_decimal(STDOUT_FILENO, n as u64);
     line(text, next);
 }
 
 // A call that a trial needs granted first: only a refusal is told.
-pub fn granted(a: Answer) {
+pub(crate) fn granted(a: Answer) {
     if a.number != 0 {
         line(b"a call that must be granted got ", a.number);
     }

@@ -1,7 +1,7 @@
 -- First and unless put the numbers together as the definition does.
 use borrow.Author.Needs.{needs}
 use Rattle.model.specs.Claims.{C3, C4, C5}
-use Rattle.claimroles.specs.Roles.{spares, asks, byRoles}
+use Rattle.claimroles.specs.Roles.{asks, byRoles}
 use Rattle.claimroles.proofs.by_roles.Statement.{statement}
 use Rattle.claimroles.proofs.by_roles.Tie as tie
 
@@ -20,14 +20,14 @@ first-requires c κs = search needs
 first-requires-2 : tie.Need-first-requires-2
 first-requires-2 c κs = search needs
 
-rule-1-requires : tie.Need-rule-1-requires
-rule-1-requires c κs = search needs
+c1-requires : tie.Need-c1-requires
+c1-requires c κs = search needs
 
 unless-requires : tie.Need-unless-requires
 unless-requires c κs = search needs
 
-rule-2-requires : tie.Need-rule-2-requires
-rule-2-requires c κs = search needs
+c2-requires : tie.Need-c2-requires
+c2-requires c κs = search needs
 
 first-requires-3 : tie.Need-first-requires-3
 first-requires-3 c κs = search needs
@@ -36,7 +36,7 @@ first-requires-4 : tie.Need-first-requires-4
 first-requires-4 c κs = search needs
 
 returns : tie.Need-returns
-unfolding byRoles asks spares C3 C4 C5
+unfolding byRoles asks C3 C4 C5
 returns c =
     rw (
       c .first4 .ensures,
@@ -44,8 +44,8 @@ returns c =
       c .before .before .before .before .before .first2 .ensures,
       c .before .before .before .before .before .before .first .ensures,
       c .before .before .before .unless .ensures,
-      c .before .before .before .before .rule-1 .ensures,
-      c .before .before .rule-2 .ensures,
+      c .before .before .before .before .c1 .ensures,
+      c .before .before .c2 .ensures,
       c .before .before .before .before .before .before .before .before .before .every-role .ensures,
       c .before .before .before .before .before .before .before .before .every-role2 .ensures,
       c .before .before .before .before .before .before .before .every-role3 .ensures,
@@ -60,9 +60,9 @@ by-roles-spec =
     every-role-requires-3
     first-requires
     first-requires-2
-    rule-1-requires
+    c1-requires
     unless-requires
-    rule-2-requires
+    c2-requires
     first-requires-3
     first-requires-4
     returns)

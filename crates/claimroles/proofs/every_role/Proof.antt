@@ -18,8 +18,8 @@ Inv-loop t w rule s ok₀ r₀ ok r = (ok ≡ allBelow r (λ r. not (has (S w) r
 abbrev μ-loop : tie.MeasureT-loop
 μ-loop t w rule s ok₀ r₀ ok r = 32 - r
 
-set-in-requires : tie.Need-set-in-requires Inv-loop μ-loop
-set-in-requires c κs = search needs
+roles-in-requires : tie.Need-roles-in-requires Inv-loop μ-loop
+roles-in-requires c κs = search needs
 
 loop-holds : tie.Need-loop-holds Inv-loop μ-loop
 unfolding allBelow
@@ -55,7 +55,7 @@ every-role-spec =
     (tie.spec
     Inv-loop
     μ-loop
-    set-in-requires
+    roles-in-requires
     loop-holds
     has-requires
     asks-requires

@@ -1,6 +1,6 @@
 -- In a straight line.
 use borrow.Author.Needs.{needs}
-use Rattle.claimroles.specs.Roles.{spares}
+use Rattle.model.specs.Claims.{spares}
 use Rattle.claimroles.proofs.spares.Statement.{statement}
 use Rattle.claimroles.proofs.spares.Tie as tie
 

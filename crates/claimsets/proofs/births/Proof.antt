@@ -1,4 +1,6 @@
 -- The invariant: the row has what the roles below r create.
+use Rattle.claimsets.proofs.births.Statement.{statement}
+use Rattle.claimsets.proofs.births.Tie as tie
 use Prim.Native.Nat.{_≤_, _-_}
 use mathlib.Core.Path.{_≡_, sym, _∙_}
 use mathlib.Core.Logic.{⊎-elim}
@@ -6,13 +8,11 @@ use native.Mathlib.Omega.{arith}
 use borrow.Author.Needs.{needs}
 use Rattle.sets.specs.Sets.{union}
 use Rattle.sets.proofs.Sets.{union-next}
-use Rattle.claimsets.specs.Family.{makes, born, rowOf}
-use Rattle.claimsets.proofs.Family.{row-at, row-same, no-births}
-use Rattle.claimsets.proofs.births.Statement.{statement}
-use Rattle.claimsets.proofs.births.Tie as tie
+use Rattle.claimsets.specs.Family.{bears, born, rowOf}
+use Rattle.claimsets.proofs.Family.{row-at, row-length, row-same, no-births}
 
 abbrev Inv-loop : tie.InvT-loop
-Inv-loop t roles row₀ r₀ row r = (row ≡ rowOf (λ k. union r (roles .bits) (makes t k))) × (r ≤ 32)
+Inv-loop t roles row₀ r₀ row r = (row ≡ rowOf (λ k. union r (roles .bits) (bears t k))) × (r ≤ 32)
 
 abbrev μ-loop : tie.MeasureT-loop
 μ-loop t roles row₀ r₀ row r = 32 - r
@@ -24,8 +24,11 @@ loop-holds c = let a = c .before .args in (no-births (a .t .now) (a .roles .bits
 has-requires : tie.Need-has-requires Inv-loop μ-loop
 has-requires c κs = search needs
 
-with-role-requires : tie.Need-with-role-requires Inv-loop μ-loop
-with-role-requires c κs = search needs
+slice-aggregate-join-role : tie.Need-slice-aggregate-join-role Inv-loop μ-loop
+slice-aggregate-join-role c = rw (c .before .before .before .before .loop .inv .0) (sym (row-length _))
+
+join-role-requires : tie.Need-join-role-requires Inv-loop μ-loop
+join-role-requires c κs = rw (c .before .before .before .before .loop .inv .0) (row-length _)
 
 add-r : tie.Need-add-r Inv-loop μ-loop
 add-r c = search needs
@@ -38,7 +41,7 @@ loop-again c =
     let h = sym (c .before .has .ensures) in
     let i = c .before .before .before .loop .inv in
     ⊎-elim
-    (λ x. (rw (x .2, x .1 .ensures, i .0) (row-same _ _ (λ k l. rw (row-at _ k l, union-next, h ∙ x .0 .taken))), search needs))
+    (λ x. (rw (x .4, x .2 .ensures, i .0) (row-same _ _ (λ k l. rw (row-at _ k l, union-next, h ∙ x .0 .taken))), search needs))
     (λ x. (rw (x .1, i .0) (row-same _ _ (λ k l. rw (union-next, h ∙ x .0 .left))), search needs))
     (c .if1 .came)
 
@@ -56,7 +59,8 @@ births-spec =
     μ-loop
     loop-holds
     has-requires
-    with-role-requires
+    slice-aggregate-join-role
+    join-role-requires
     add-r
     loop-less
     loop-again

@@ -7,7 +7,7 @@ use borrow.Author.Needs.{needs}
 use Rattle.sets.specs.Sets.{union}
 use Rattle.sets.proofs.Sets.{union-none, union-next}
 use Rattle.model.specs.Words.{_!_}
-use Rattle.model.specs.Records.{rightsAddr}
+use Rattle.model.specs.Layout.{rightsAddr}
 use Rattle.claimsets.specs.Family.{rightsTo}
 use Rattle.claimsets.proofs.rights_to.Statement.{statement}
 use Rattle.claimsets.proofs.rights_to.Tie as tie
@@ -27,8 +27,8 @@ has-requires c κs = search needs
 rights-addr-requires : tie.Need-rights-addr-requires Inv-loop μ-loop
 rights-addr-requires c κs = search needs
 
-word-requires : tie.Need-word-requires Inv-loop μ-loop
-word-requires c κs = search needs
+set-at-requires : tie.Need-set-at-requires Inv-loop μ-loop
+set-at-requires c κs = search needs
 
 join-requires : tie.Need-join-requires Inv-loop μ-loop
 join-requires c κs = search needs
@@ -60,7 +60,7 @@ rights-to-spec =
     loop-holds
     has-requires
     rights-addr-requires
-    word-requires
+    set-at-requires
     join-requires
     add-r
     loop-less

@@ -1,8 +1,6 @@
--- The definition's own climb; the remainder that it starts with bounds what it counts.
-use native.Mathlib.Omega.{arith}
+-- The definition's own climb.
 use borrow.Author.Needs.{needs}
 use Rattle.model.specs.Effective.{effective}
-use Rattle.effective.proofs.Laws.{bound-of}
 use Rattle.effective.proofs.effective.Statement.{statement}
 use Rattle.effective.proofs.effective.Tie as tie
 
@@ -14,7 +12,7 @@ climb-requires c κs = search needs
 
 returns : tie.Need-returns
 unfolding effective
-returns c = (cc, omega (arith, bound-of _ _ _ _ _ _ (c .climb .ensures)))
+returns c = cc
 
 pub effective-spec : {M : Type 1} → statement M
 effective-spec = tie.close (tie.spec file-word-requires climb-requires returns)

@@ -2,12 +2,11 @@
 use borrow.Author.Needs.{needs}
 use borrow.Author.Tests.{eq-eqb, ne-eqb}
 use Rattle.model.specs.Effective.{typeOf}
-use Rattle.effective.proofs.Laws.{value-of}
 use Rattle.effective.proofs.type_of.Statement.{statement}
 use Rattle.effective.proofs.type_of.Tie as tie
 
-eff-type-requires : tie.Need-eff-type-requires
-eff-type-requires c κs = search needs
+value-at-requires : tie.Need-value-at-requires
+value-at-requires c κs = search needs
 
 process-at-requires : tie.Need-process-at-requires
 process-at-requires c κs = search needs
@@ -17,7 +16,7 @@ ipc-at-requires c κs = search needs
 
 returns : tie.Need-returns
 unfolding typeOf
-returns c = rw (eq-eqb _ _ (c .before .if1 .taken)) (value-of _ _ (c .eff-type .ensures))
+returns c = rw (eq-eqb _ _ (c .before .if1 .taken)) (c .value-at .ensures)
 
 returns-2 : tie.Need-returns-2
 unfolding typeOf
@@ -30,4 +29,4 @@ returns-3 c = let b = c .before in rw (ne-eqb _ _ (b .before .if1 .left), ne-eqb
 pub type-of-spec : {M : Type 1} → statement M
 type-of-spec =
     tie.close
-    (tie.spec eff-type-requires process-at-requires ipc-at-requires returns returns-2 returns-3)
+    (tie.spec value-at-requires process-at-requires ipc-at-requires returns returns-2 returns-3)

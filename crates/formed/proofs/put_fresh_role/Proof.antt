@@ -1,4 +1,5 @@
 -- The code's address and words are the definition's.
+-- Assumes nothing.
 use borrow.Author.Needs.{needs}
 use Rattle.formed.proofs.put_fresh_role.Statement.{statement}
 use Rattle.formed.proofs.put_fresh_role.Tie as tie
@@ -8,9 +9,6 @@ cast-mark c = search needs
 
 role-addr-requires : tie.Need-role-addr-requires
 role-addr-requires c κs = search needs
-
-cast-put-words : tie.Need-cast-put-words
-cast-put-words c = search needs
 
 add-put-words : tie.Need-add-put-words
 add-put-words c = search needs
@@ -35,7 +33,6 @@ put-fresh-role-spec =
     (tie.spec
     cast-mark
     role-addr-requires
-    cast-put-words
     add-put-words
     slice-aggregate-put-words
     put-words-requires

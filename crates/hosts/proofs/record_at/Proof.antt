@@ -51,7 +51,7 @@ module _ {M : Type 1} (𝓤 : URA M) (H : Heap 𝓤) (A : Atoms 𝓤) (W : Given
   Post = walkOf 𝓤 H A f.ended hs (f.clauses 𝓤 H A mem run) .post y
 
   exits : (r : Process) → Is T.the-row r (process .val r ∷ []) → r ≡ recordAt (now x) i → ent 𝓤 (sep 𝓤 (A .lft κ q) (emp 𝓤)) (Post (process .val r))
-  exits r g e = ends-alone 𝓤 H A W f.ended (f.clauses 𝓤 H A mem run) y (process .val r) r (tt, (tt, tt)) (tt, (tt, tt)) (process .makes 𝓤 H A r _ g) e (id⊢ 𝓤 _)
+  exits r g e = ends-alone 𝓤 H A W f.ended (f.clauses 𝓤 H A mem run) y (process .val r) r (tt, (tt, tt)) (tt, (tt, tt)) (process .makes 𝓤 H A W r _ g) e (id⊢ 𝓤 _)
 
   walk : Room T.the-row (length (now x)) → i < 2 ^ 32 → ent 𝓤 (onEntry 𝓤 H A f.signature (κ, tt) (q, tt) (x, (i, tt)) (y .0 .4)) (WpFn 𝓤 H (𝓣 .C) (𝓣 .Λ) code.function (sliceVal (x .ptr) (length (now x)) ∷ vint w32 i ∷ []) Post)
   walk n-fits i-fits =

@@ -1,7 +1,7 @@
 -- The tests in their order.
 -- Assumes nothing.
 use borrow.Author.Needs.{needs}
-use Rattle.hosts.specs.Records.{roleNo, roleAnswer}
+use Rattle.hosts.specs.Records.{roleNo}
 use Rattle.hosts.proofs.role_answer.Statement.{statement}
 use Rattle.hosts.proofs.role_answer.Tie as tie
 
@@ -14,20 +14,29 @@ unless-requires c κs = search needs
 unless-requires-2 : tie.Need-unless-requires-2
 unless-requires-2 c κs = search needs
 
+first-requires : tie.Need-first-requires
+first-requires c κs = search needs
+
 has-requires : tie.Need-has-requires
 has-requires c κs = search needs
 
 unless-requires-3 : tie.Need-unless-requires-3
 unless-requires-3 c κs = search needs
 
-first-requires : tie.Need-first-requires
-first-requires c κs = search needs
-
 first-requires-2 : tie.Need-first-requires-2
 first-requires-2 c κs = search needs
 
+well-formed-requires : tie.Need-well-formed-requires
+well-formed-requires c κs = search needs
+
+unless-requires-4 : tie.Need-unless-requires-4
+unless-requires-4 c κs = search needs
+
+first-requires-3 : tie.Need-first-requires-3
+first-requires-3 c κs = search needs
+
 returns : tie.Need-returns
-unfolding roleAnswer roleNo
+unfolding roleNo
 returns c = cc
 
 pub role-answer-spec : {M : Type 1} → statement M
@@ -41,4 +50,7 @@ role-answer-spec =
     has-requires
     unless-requires-3
     first-requires-2
+    well-formed-requires
+    unless-requires-4
+    first-requires-3
     returns)

@@ -6,6 +6,15 @@ use borrow.Author.Needs.{needs}
 use Rattle.kinds.proofs.decode.Statement.{statement}
 use Rattle.kinds.proofs.decode.Tie as tie
 
+array-read-access : tie.Need-array-read-access
+array-read-access c = search needs
+
+array-read-access-2 : tie.Need-array-read-access-2
+array-read-access-2 c = search needs
+
+array-read-access-3 : tie.Need-array-read-access-3
+array-read-access-3 c = search needs
+
 access-requires : tie.Need-access-requires
 access-requires c κs = search needs
 
@@ -18,17 +27,38 @@ takes-requires-2 c κs = search needs
 takes-requires-3 : tie.Need-takes-requires-3
 takes-requires-3 c κs = search needs
 
+array-read-t23 : tie.Need-array-read-t23
+array-read-t23 c = search needs
+
 takes-requires-4 : tie.Need-takes-requires-4
 takes-requires-4 c κs = search needs
+
+array-read-t28 : tie.Need-array-read-t28
+array-read-t28 c = search needs
 
 takes-requires-5 : tie.Need-takes-requires-5
 takes-requires-5 c κs = search needs
 
+array-read-t33 : tie.Need-array-read-t33
+array-read-t33 c = search needs
+
 takes-requires-6 : tie.Need-takes-requires-6
 takes-requires-6 c κs = search needs
 
+array-read-create : tie.Need-array-read-create
+array-read-create c = search needs
+
+array-read-create-2 : tie.Need-array-read-create-2
+array-read-create-2 c = search needs
+
+create-requires : tie.Need-create-requires
+create-requires c κs = search needs
+
 takes-requires-7 : tie.Need-takes-requires-7
 takes-requires-7 c κs = search needs
+
+array-read-t46 : tie.Need-array-read-t46
+array-read-t46 c = search needs
 
 takes-requires-8 : tie.Need-takes-requires-8
 takes-requires-8 c κs = search needs
@@ -36,8 +66,20 @@ takes-requires-8 c κs = search needs
 takes-requires-9 : tie.Need-takes-requires-9
 takes-requires-9 c κs = search needs
 
+array-read-t53 : tie.Need-array-read-t53
+array-read-t53 c = search needs
+
 takes-requires-10 : tie.Need-takes-requires-10
 takes-requires-10 c κs = search needs
+
+array-read-add-role : tie.Need-array-read-add-role
+array-read-add-role c = search needs
+
+array-read-add-role-2 : tie.Need-array-read-add-role-2
+array-read-add-role-2 c = search needs
+
+array-read-add-role-3 : tie.Need-array-read-add-role-3
+array-read-add-role-3 c = search needs
 
 add-role-requires : tie.Need-add-role-requires
 add-role-requires c κs = search needs
@@ -45,20 +87,62 @@ add-role-requires c κs = search needs
 takes-requires-11 : tie.Need-takes-requires-11
 takes-requires-11 c κs = search needs
 
+array-read-remove-role : tie.Need-array-read-remove-role
+array-read-remove-role c = search needs
+
+array-read-remove-role-2 : tie.Need-array-read-remove-role-2
+array-read-remove-role-2 c = search needs
+
+array-read-remove-role-3 : tie.Need-array-read-remove-role-3
+array-read-remove-role-3 c = search needs
+
 remove-role-requires : tie.Need-remove-role-requires
 remove-role-requires c κs = search needs
 
 takes-requires-12 : tie.Need-takes-requires-12
 takes-requires-12 c κs = search needs
 
+array-read-set-user-role : tie.Need-array-read-set-user-role
+array-read-set-user-role c = search needs
+
+array-read-set-user-role-2 : tie.Need-array-read-set-user-role-2
+array-read-set-user-role-2 c = search needs
+
+set-user-role-requires : tie.Need-set-user-role-requires
+set-user-role-requires c κs = search needs
+
 takes-requires-13 : tie.Need-takes-requires-13
 takes-requires-13 c κs = search needs
+
+array-read-set-initial : tie.Need-array-read-set-initial
+array-read-set-initial c = search needs
+
+array-read-set-initial-2 : tie.Need-array-read-set-initial-2
+array-read-set-initial-2 c = search needs
+
+set-initial-requires : tie.Need-set-initial-requires
+set-initial-requires c κs = search needs
 
 takes-requires-14 : tie.Need-takes-requires-14
 takes-requires-14 c κs = search needs
 
+array-read-set-forced : tie.Need-array-read-set-forced
+array-read-set-forced c = search needs
+
+array-read-set-forced-2 : tie.Need-array-read-set-forced-2
+array-read-set-forced-2 c = search needs
+
+set-forced-requires : tie.Need-set-forced-requires
+set-forced-requires c κs = search needs
+
 takes-requires-15 : tie.Need-takes-requires-15
 takes-requires-15 c κs = search needs
+
+array-read-set-process-forced : tie.Need-array-read-set-process-forced
+array-read-set-process-forced c = search needs
+
+array-read-set-process-forced-2 : tie.Need-array-read-set-process-forced-2
+array-read-set-process-forced-2 c = search needs
 
 set-process-forced-requires : tie.Need-set-process-forced-requires
 set-process-forced-requires c κs = search needs
@@ -66,14 +150,41 @@ set-process-forced-requires c κs = search needs
 takes-requires-16 : tie.Need-takes-requires-16
 takes-requires-16 c κs = search needs
 
+array-read-set-default-type : tie.Need-array-read-set-default-type
+array-read-set-default-type c = search needs
+
+array-read-set-default-type-2 : tie.Need-array-read-set-default-type-2
+array-read-set-default-type-2 c = search needs
+
+array-read-set-default-type-3 : tie.Need-array-read-set-default-type-3
+array-read-set-default-type-3 c = search needs
+
 set-default-type-requires : tie.Need-set-default-type-requires
 set-default-type-requires c κs = search needs
 
 takes-requires-17 : tie.Need-takes-requires-17
 takes-requires-17 c κs = search needs
 
+array-read-set-role-admin : tie.Need-array-read-set-role-admin
+array-read-set-role-admin c = search needs
+
+array-read-set-role-admin-2 : tie.Need-array-read-set-role-admin-2
+array-read-set-role-admin-2 c = search needs
+
+set-role-admin-requires : tie.Need-set-role-admin-requires
+set-role-admin-requires c κs = search needs
+
 takes-requires-18 : tie.Need-takes-requires-18
 takes-requires-18 c κs = search needs
+
+array-read-set-type : tie.Need-array-read-set-type
+array-read-set-type c = search needs
+
+array-read-set-type-2 : tie.Need-array-read-set-type-2
+array-read-set-type-2 c = search needs
+
+array-read-set-type-3 : tie.Need-array-read-set-type-3
+array-read-set-type-3 c = search needs
 
 set-type-requires : tie.Need-set-type-requires
 set-type-requires c κs = search needs
@@ -81,11 +192,35 @@ set-type-requires c κs = search needs
 takes-requires-19 : tie.Need-takes-requires-19
 takes-requires-19 c κs = search needs
 
+array-read-add-right : tie.Need-array-read-add-right
+array-read-add-right c = search needs
+
+array-read-add-right-2 : tie.Need-array-read-add-right-2
+array-read-add-right-2 c = search needs
+
+array-read-add-right-3 : tie.Need-array-read-add-right-3
+array-read-add-right-3 c = search needs
+
+array-read-add-right-4 : tie.Need-array-read-add-right-4
+array-read-add-right-4 c = search needs
+
 add-right-requires : tie.Need-add-right-requires
 add-right-requires c κs = search needs
 
 takes-requires-20 : tie.Need-takes-requires-20
 takes-requires-20 c κs = search needs
+
+array-read-remove-right : tie.Need-array-read-remove-right
+array-read-remove-right c = search needs
+
+array-read-remove-right-2 : tie.Need-array-read-remove-right-2
+array-read-remove-right-2 c = search needs
+
+array-read-remove-right-3 : tie.Need-array-read-remove-right-3
+array-read-remove-right-3 c = search needs
+
+array-read-remove-right-4 : tie.Need-array-read-remove-right-4
+array-read-remove-right-4 c = search needs
 
 remove-right-requires : tie.Need-remove-right-requires
 remove-right-requires c κs = search needs
@@ -119,7 +254,7 @@ returns-6 c = rw (c .before .match .keys6) (c .takes6 .ensures)
 
 returns-7 : tie.Need-returns-7
 unfolding decodeOf
-returns-7 c = rw (c .before .match .keys7) (c .takes7 .ensures)
+returns-7 c = rw (c .before .before .match .keys7, ← c .before .create .ensures) (c .takes7 .ensures)
 
 returns-8 : tie.Need-returns-8
 unfolding decodeOf
@@ -143,15 +278,15 @@ returns-12 c = rw (c .before .before .match .keys12, ← c .before .remove-role 
 
 returns-13 : tie.Need-returns-13
 unfolding decodeOf
-returns-13 c = rw (c .before .match .keys13) (c .takes13 .ensures)
+returns-13 c = rw (c .before .before .match .keys13, ← c .before .set-user-role .ensures) (c .takes13 .ensures)
 
 returns-14 : tie.Need-returns-14
 unfolding decodeOf
-returns-14 c = rw (c .before .match .keys14) (c .takes14 .ensures)
+returns-14 c = rw (c .before .before .match .keys14, ← c .before .set-initial .ensures) (c .takes14 .ensures)
 
 returns-15 : tie.Need-returns-15
 unfolding decodeOf
-returns-15 c = rw (c .before .match .keys15) (c .takes15 .ensures)
+returns-15 c = rw (c .before .before .match .keys15, ← c .before .set-forced .ensures) (c .takes15 .ensures)
 
 returns-16 : tie.Need-returns-16
 unfolding decodeOf
@@ -163,7 +298,7 @@ returns-17 c = rw (c .before .before .match .keys17, ← c .before .set-default-
 
 returns-18 : tie.Need-returns-18
 unfolding decodeOf
-returns-18 c = rw (c .before .match .keys18) (c .takes18 .ensures)
+returns-18 c = rw (c .before .before .match .keys18, ← c .before .set-role-admin .ensures) (c .takes18 .ensures)
 
 returns-19 : tie.Need-returns-19
 unfolding decodeOf
@@ -209,33 +344,78 @@ pub decode-spec : {M : Type 1} → statement M
 decode-spec =
     tie.close
     (tie.spec
+    array-read-access
+    array-read-access-2
+    array-read-access-3
     access-requires
     takes-requires
     takes-requires-2
     takes-requires-3
+    array-read-t23
     takes-requires-4
+    array-read-t28
     takes-requires-5
+    array-read-t33
     takes-requires-6
+    array-read-create
+    array-read-create-2
+    create-requires
     takes-requires-7
+    array-read-t46
     takes-requires-8
     takes-requires-9
+    array-read-t53
     takes-requires-10
+    array-read-add-role
+    array-read-add-role-2
+    array-read-add-role-3
     add-role-requires
     takes-requires-11
+    array-read-remove-role
+    array-read-remove-role-2
+    array-read-remove-role-3
     remove-role-requires
     takes-requires-12
+    array-read-set-user-role
+    array-read-set-user-role-2
+    set-user-role-requires
     takes-requires-13
+    array-read-set-initial
+    array-read-set-initial-2
+    set-initial-requires
     takes-requires-14
+    array-read-set-forced
+    array-read-set-forced-2
+    set-forced-requires
     takes-requires-15
+    array-read-set-process-forced
+    array-read-set-process-forced-2
     set-process-forced-requires
     takes-requires-16
+    array-read-set-default-type
+    array-read-set-default-type-2
+    array-read-set-default-type-3
     set-default-type-requires
     takes-requires-17
+    array-read-set-role-admin
+    array-read-set-role-admin-2
+    set-role-admin-requires
     takes-requires-18
+    array-read-set-type
+    array-read-set-type-2
+    array-read-set-type-3
     set-type-requires
     takes-requires-19
+    array-read-add-right
+    array-read-add-right-2
+    array-read-add-right-3
+    array-read-add-right-4
     add-right-requires
     takes-requires-20
+    array-read-remove-right
+    array-read-remove-right-2
+    array-read-remove-right-3
+    array-read-remove-right-4
     remove-right-requires
     takes-requires-21
     returns

@@ -1,25 +1,19 @@
--- Refused the row stays; granted the caller's record is that of rules 13 and 22.
+-- The one test, and the process of rules 13 and 22 at the place of the caller.
 -- Assumes nothing.
-use Rattle.model.proofs.Granted.{refuses, grants}
-use Rattle.model.specs.Step.{act}
-use Rattle.model.specs.Calls.{changeOwnerRow}
-use mathlib.Core.Path.{refl, _∙_}
 use borrow.Author.Needs.{needs}
 use Rattle.processes.proofs.change_owner.Statement.{statement}
 use Rattle.processes.proofs.change_owner.Tie as tie
+use mathlib.Core.Path.{refl, _∙_}
+use Rattle.model.specs.Records.{putProcess}
+use Rattle.model.specs.Calls.{changeOwnerNo, changeOwnerRow}
+use Rattle.model.specs.Step.{ruling}
+use Rattle.model.proofs.Decided.{decides}
 
-change-owner-no-requires : tie.Need-change-owner-no-requires
-change-owner-no-requires c κs = search needs
+may-self-requires : tie.Need-may-self-requires
+may-self-requires c κs = search needs
 
-refused-requires : tie.Need-refused-requires
-refused-requires c κs = search needs
-
-same-length : tie.Need-same-length
-same-length c = search needs
-
-returns : tie.Need-returns
-unfolding act
-returns c = refuses _ _ _ _ _ _ (c .before .before .change-owner-no .ensures) (c .before .if1 .taken) (c .refused .ensures)
+unless-requires : tie.Need-unless-requires
+unless-requires c κs = search needs
 
 role-under-requires : tie.Need-role-under-requires
 role-under-requires c κs = search needs
@@ -36,36 +30,52 @@ process-at-requires c κs = search needs
 chowned-requires : tie.Need-chowned-requires
 chowned-requires c κs = search needs
 
-put-process-requires : tie.Need-put-process-requires
-put-process-requires c κs = search needs
+process-words-requires : tie.Need-process-words-requires
+process-words-requires c κs = search needs
 
-granted-requires : tie.Need-granted-requires
-granted-requires c κs = search needs
+process-addr-requires : tie.Need-process-addr-requires
+process-addr-requires c κs = search needs
 
-same-length-2 : tie.Need-same-length-2
-same-length-2 c = search needs
+slice-aggregate-decide-words : tie.Need-slice-aggregate-decide-words
+slice-aggregate-decide-words c = search needs
 
-returns-2 : tie.Need-returns-2
-unfolding act changeOwnerRow
-returns-2 c =
-    let r = c .before .before .before .before .before .before .before .before .before .before .before .before .before .before in
-    grants _ _ _ _ _ _ _ _ (r .before .change-owner-no .ensures) (r .if1 .left) (c .granted .ensures) refl
-    (c .before .before .before .put-process .ensures ∙ simp (c .before .before .before .before .before .chowned .ensures, c .before .before .before .before .before .before .process-at .ensures, c .before .before .before .before .before .before .before .before .own-role .ensures, c .before .before .before .before .before .before .before .before .before .before .role-at .ensures, c .before .before .before .before .before .before .before .before .before .before .before .before .role-under .ensures))
+decide-words-requires : tie.Need-decide-words-requires
+decide-words-requires c κs = search needs
+
+same-length : tie.Need-same-length
+same-length c = search needs
+
+returns : tie.Need-returns
+unfolding ruling changeOwnerNo changeOwnerRow putProcess
+returns c =
+    let decide-words = c .before .before in
+    let process-addr = decide-words .before .before in
+    let process-words = process-addr .before .before in
+    let chowned = process-words .before in
+    let process-at = chowned .before in
+    let own-role = process-at .before .before in
+    let role-at = own-role .before .before in
+    let role-under = role-at .before .before in
+    let unless = role-under .before .before in
+    let may-self = unless .before in
+    decide-words .decide-words .ensures
+    ∙ decides _ _ _ _ _ _ _ (simp (unless .unless .ensures, may-self .may-self .ensures)) refl
+    (simp (process-addr .process-addr .ensures, process-words .process-words .ensures, chowned .chowned .ensures, process-at .process-at .ensures, own-role .own-role .ensures, role-at .role-at .ensures, role-under .role-under .ensures))
 
 pub change-owner-spec : {M : Type 1} → statement M
 change-owner-spec =
     tie.close
     (tie.spec
-    change-owner-no-requires
-    refused-requires
-    same-length
-    returns
+    may-self-requires
+    unless-requires
     role-under-requires
     role-at-requires
     own-role-requires
     process-at-requires
     chowned-requires
-    put-process-requires
-    granted-requires
-    same-length-2
-    returns-2)
+    process-words-requires
+    process-addr-requires
+    slice-aggregate-decide-words
+    decide-words-requires
+    same-length
+    returns)

@@ -1,25 +1,22 @@
--- Refused the row stays; granted the caller's record has the new role.
+-- The one test, and the process of rule 15 at the place of the caller.
 -- Assumes nothing.
-use Rattle.model.proofs.Granted.{refuses, grants}
-use Rattle.model.specs.Step.{act}
-use Rattle.model.specs.Calls.{changeRoleRow}
 use mathlib.Core.Path.{refl, _∙_}
+use Rattle.model.specs.Records.{putProcess}
+use Rattle.model.specs.Calls.{changeRoleNo, changeRoleRow}
+use Rattle.model.specs.Step.{ruling}
+use Rattle.model.proofs.Decided.{decides}
 use borrow.Author.Needs.{needs}
 use Rattle.processes.proofs.change_role.Statement.{statement}
 use Rattle.processes.proofs.change_role.Tie as tie
 
-change-role-no-requires : tie.Need-change-role-no-requires
-change-role-no-requires c κs = search needs
+own-role-requires : tie.Need-own-role-requires
+own-role-requires c κs = search needs
 
-refused-requires : tie.Need-refused-requires
-refused-requires c κs = search needs
+has-requires : tie.Need-has-requires
+has-requires c κs = search needs
 
-same-length : tie.Need-same-length
-same-length c = search needs
-
-returns : tie.Need-returns
-unfolding act
-returns c = refuses _ _ _ _ _ _ (c .before .before .change-role-no .ensures) (c .before .if1 .taken) (c .refused .ensures)
+unless-requires : tie.Need-unless-requires
+unless-requires c κs = search needs
 
 process-at-requires : tie.Need-process-at-requires
 process-at-requires c κs = search needs
@@ -27,33 +24,48 @@ process-at-requires c κs = search needs
 with-role-requires : tie.Need-with-role-requires
 with-role-requires c κs = search needs
 
-put-process-requires : tie.Need-put-process-requires
-put-process-requires c κs = search needs
+process-words-requires : tie.Need-process-words-requires
+process-words-requires c κs = search needs
 
-granted-requires : tie.Need-granted-requires
-granted-requires c κs = search needs
+process-addr-requires : tie.Need-process-addr-requires
+process-addr-requires c κs = search needs
 
-same-length-2 : tie.Need-same-length-2
-same-length-2 c = search needs
+slice-aggregate-decide-words : tie.Need-slice-aggregate-decide-words
+slice-aggregate-decide-words c = search needs
 
-returns-2 : tie.Need-returns-2
-unfolding act changeRoleRow
-returns-2 c =
-    let r = c .before .before .before .before .before .before .before .before in
-    grants _ _ _ _ _ _ _ _ (r .before .change-role-no .ensures) (r .if1 .left) (c .granted .ensures) refl
-    (c .before .before .before .put-process .ensures ∙ simp (c .before .before .before .before .before .with-role .ensures, c .before .before .before .before .before .before .process-at .ensures))
+decide-words-requires : tie.Need-decide-words-requires
+decide-words-requires c κs = search needs
+
+same-length : tie.Need-same-length
+same-length c = search needs
+
+returns : tie.Need-returns
+unfolding ruling changeRoleNo changeRoleRow putProcess
+returns c =
+    let decide-words = c .before .before in
+    let process-addr = decide-words .before .before in
+    let process-words = process-addr .before .before in
+    let with-role = process-words .before in
+    let process-at = with-role .before in
+    let unless = process-at .before .before in
+    let has = unless .before in
+    let own-role = has .before .before in
+    decide-words .decide-words .ensures
+    ∙ decides _ _ _ _ _ _ _ (simp (unless .unless .ensures, has .has .ensures, own-role .own-role .ensures)) refl
+    (simp (process-addr .process-addr .ensures, process-words .process-words .ensures, with-role .with-role .ensures, process-at .process-at .ensures))
 
 pub change-role-spec : {M : Type 1} → statement M
 change-role-spec =
     tie.close
     (tie.spec
-    change-role-no-requires
-    refused-requires
-    same-length
-    returns
+    own-role-requires
+    has-requires
+    unless-requires
     process-at-requires
     with-role-requires
-    put-process-requires
-    granted-requires
-    same-length-2
-    returns-2)
+    process-words-requires
+    process-addr-requires
+    slice-aggregate-decide-words
+    decide-words-requires
+    same-length
+    returns)

@@ -1,25 +1,28 @@
--- Refused the row stays; granted the child of rules 2 and 8 lies in the lowest free place.
+-- The tests in their order, and the child of rules 2 and 8 at the lowest free place.
 -- Assumes nothing.
-use Rattle.model.proofs.Granted.{refuses, grants, number-of, place-of}
-use Rattle.model.specs.Step.{act}
-use Rattle.model.specs.Calls.{cloneRow}
-use mathlib.Core.Path.{_∙_}
 use borrow.Author.Needs.{needs}
 use Rattle.processes.proofs.clone.Statement.{statement}
 use Rattle.processes.proofs.clone.Tie as tie
+use mathlib.Core.Path.{_∙_}
+use Rattle.model.specs.Records.{putProcess}
+use Rattle.model.specs.Calls.{cloneNo, cloneRow}
+use Rattle.model.specs.Step.{ruling}
+use Rattle.model.proofs.Decided.{decides}
 
-clone-no-requires : tie.Need-clone-no-requires
-clone-no-requires c κs = search needs
+free-place-requires : tie.Need-free-place-requires
+free-place-requires c κs = search needs
 
-refused-requires : tie.Need-refused-requires
-refused-requires c κs = search needs
+may-self-requires : tie.Need-may-self-requires
+may-self-requires c κs = search needs
 
-same-length : tie.Need-same-length
-same-length c = search needs
+unless-requires : tie.Need-unless-requires
+unless-requires c κs = search needs
 
-returns : tie.Need-returns
-unfolding act
-returns c = refuses _ _ _ _ _ _ (number-of _ _ (c .before .before .before .clone-no .ensures)) (c .before .if1 .taken) (c .refused .ensures)
+unless-requires-2 : tie.Need-unless-requires-2
+unless-requires-2 c κs = search needs
+
+first-requires : tie.Need-first-requires
+first-requires c κs = search needs
 
 own-role-requires : tie.Need-own-role-requires
 own-role-requires c κs = search needs
@@ -30,34 +33,54 @@ process-at-requires c κs = search needs
 cloned-requires : tie.Need-cloned-requires
 cloned-requires c κs = search needs
 
-put-process-requires : tie.Need-put-process-requires
-put-process-requires c κs = search needs
+process-words-requires : tie.Need-process-words-requires
+process-words-requires c κs = search needs
 
-granted-requires : tie.Need-granted-requires
-granted-requires c κs = search needs
+process-addr-requires : tie.Need-process-addr-requires
+process-addr-requires c κs = search needs
 
-same-length-2 : tie.Need-same-length-2
-same-length-2 c = search needs
+slice-aggregate-decide-words : tie.Need-slice-aggregate-decide-words
+slice-aggregate-decide-words c = search needs
 
-returns-2 : tie.Need-returns-2
-unfolding act cloneRow
-returns-2 c =
-    let r = c .before .before .before .before .before .before .before .before .before .before in
-    grants _ _ _ _ _ _ _ _ (number-of _ _ (r .before .before .clone-no .ensures)) (r .if1 .left) (c .granted .ensures) (place-of _ _ (r .before .before .clone-no .ensures))
-    (c .before .before .before .put-process .ensures ∙ simp (c .before .before .before .before .before .cloned .ensures, c .before .before .before .before .before .before .process-at .ensures, c .before .before .before .before .before .before .before .before .own-role .ensures, place-of _ _ (r .before .before .clone-no .ensures)))
+decide-words-requires : tie.Need-decide-words-requires
+decide-words-requires c κs = search needs
+
+same-length : tie.Need-same-length
+same-length c = search needs
+
+returns : tie.Need-returns
+unfolding ruling cloneNo cloneRow putProcess
+returns c =
+    let decide-words = c .before .before in
+    let process-addr = decide-words .before .before in
+    let process-words = process-addr .before .before in
+    let cloned = process-words .before in
+    let process-at = cloned .before in
+    let own-role = process-at .before .before in
+    let first = own-role .before .before in
+    let unless2 = first .before in
+    let unless = unless2 .before in
+    let may-self = unless .before in
+    let free-place = may-self .before .before in
+    decide-words .decide-words .ensures
+    ∙ decides _ _ _ _ _ _ _ (simp (first .first .ensures, unless2 .unless2 .ensures, unless .unless .ensures, may-self .may-self .ensures, free-place .free-place .ensures)) (free-place .free-place .ensures)
+    (simp (process-addr .process-addr .ensures, process-words .process-words .ensures, cloned .cloned .ensures, process-at .process-at .ensures, own-role .own-role .ensures, free-place .free-place .ensures))
 
 pub clone-spec : {M : Type 1} → statement M
 clone-spec =
     tie.close
     (tie.spec
-    clone-no-requires
-    refused-requires
-    same-length
-    returns
+    free-place-requires
+    may-self-requires
+    unless-requires
+    unless-requires-2
+    first-requires
     own-role-requires
     process-at-requires
     cloned-requires
-    put-process-requires
-    granted-requires
-    same-length-2
-    returns-2)
+    process-words-requires
+    process-addr-requires
+    slice-aggregate-decide-words
+    decide-words-requires
+    same-length
+    returns)

@@ -1,12 +1,9 @@
 -- The tests in their order.
 -- Assumes nothing.
-use borrow.Author.Needs.{needs}
 use Rattle.model.specs.Calls.{executeNo}
+use borrow.Author.Needs.{needs}
 use Rattle.processes.proofs.execute_no.Statement.{statement}
 use Rattle.processes.proofs.execute_no.Tie as tie
-
-caller-no-requires : tie.Need-caller-no-requires
-caller-no-requires c κs = search needs
 
 file-word-requires : tie.Need-file-word-requires
 file-word-requires c κs = search needs
@@ -14,8 +11,8 @@ file-word-requires c κs = search needs
 unless-requires : tie.Need-unless-requires
 unless-requires c κs = search needs
 
-eff-type-requires : tie.Need-eff-type-requires
-eff-type-requires c κs = search needs
+value-at-requires : tie.Need-value-at-requires
+value-at-requires c κs = search needs
 
 may-requires : tie.Need-may-requires
 may-requires c κs = search needs
@@ -26,9 +23,6 @@ unless-requires-2 c κs = search needs
 first-requires : tie.Need-first-requires
 first-requires c κs = search needs
 
-first-requires-2 : tie.Need-first-requires-2
-first-requires-2 c κs = search needs
-
 returns : tie.Need-returns
 unfolding executeNo
 returns c = cc
@@ -37,12 +31,10 @@ pub execute-no-spec : {M : Type 1} → statement M
 execute-no-spec =
     tie.close
     (tie.spec
-    caller-no-requires
     file-word-requires
     unless-requires
-    eff-type-requires
+    value-at-requires
     may-requires
     unless-requires-2
     first-requires
-    first-requires-2
     returns)

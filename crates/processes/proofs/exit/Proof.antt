@@ -1,51 +1,56 @@
--- Refused the row stays; granted the caller's place holds a free place's words.
+-- The one test, and zeros at the place of the caller.
 -- Assumes nothing.
-use Rattle.model.proofs.Granted.{refuses, grants}
-use Rattle.model.specs.Step.{act}
-use Rattle.model.specs.Calls.{exitRow}
-use mathlib.Core.Path.{refl}
+use mathlib.Core.Path.{refl, _∙_}
+use Rattle.model.specs.Records.{putProcess}
+use Rattle.model.specs.Calls.{exitNo, exitRow}
+use Rattle.model.specs.Step.{ruling}
+use Rattle.model.proofs.Decided.{decides}
 use borrow.Author.Needs.{needs}
 use Rattle.processes.proofs.exit.Statement.{statement}
 use Rattle.processes.proofs.exit.Tie as tie
 
-exit-no-requires : tie.Need-exit-no-requires
-exit-no-requires c κs = search needs
+unless-requires : tie.Need-unless-requires
+unless-requires c κs = search needs
 
-refused-requires : tie.Need-refused-requires
-refused-requires c κs = search needs
+free-process-requires : tie.Need-free-process-requires
+free-process-requires c κs = search needs
+
+process-words-requires : tie.Need-process-words-requires
+process-words-requires c κs = search needs
+
+process-addr-requires : tie.Need-process-addr-requires
+process-addr-requires c κs = search needs
+
+slice-aggregate-decide-words : tie.Need-slice-aggregate-decide-words
+slice-aggregate-decide-words c = search needs
+
+decide-words-requires : tie.Need-decide-words-requires
+decide-words-requires c κs = search needs
 
 same-length : tie.Need-same-length
 same-length c = search needs
 
 returns : tie.Need-returns
-unfolding act
-returns c = refuses _ _ _ _ _ _ (c .before .before .exit-no .ensures) (c .before .if1 .taken) (c .refused .ensures)
-
-put-process-requires : tie.Need-put-process-requires
-put-process-requires c κs = search needs
-
-granted-requires : tie.Need-granted-requires
-granted-requires c κs = search needs
-
-same-length-2 : tie.Need-same-length-2
-same-length-2 c = search needs
-
-returns-2 : tie.Need-returns-2
-unfolding act exitRow
-returns-2 c =
-    let r = c .before .before .before .before .before in
-    grants _ _ _ _ _ _ _ _ (r .before .exit-no .ensures) (r .if1 .left) (c .granted .ensures) refl
-    (c .before .before .before .put-process .ensures)
+unfolding ruling exitNo exitRow putProcess
+returns c =
+    let decide-words = c .before .before in
+    let process-addr = decide-words .before .before in
+    let process-words = process-addr .before .before in
+    let free-process = process-words .before in
+    let unless = free-process .before in
+    decide-words .decide-words .ensures
+    ∙ decides _ _ _ _ _ _ _ (unless .unless .ensures) refl
+    (simp (process-addr .process-addr .ensures, process-words .process-words .ensures, free-process .free-process .ensures))
 
 pub exit-spec : {M : Type 1} → statement M
 exit-spec =
     tie.close
     (tie.spec
-    exit-no-requires
-    refused-requires
+    unless-requires
+    free-process-requires
+    process-words-requires
+    process-addr-requires
+    slice-aggregate-decide-words
+    decide-words-requires
     same-length
-    returns
-    put-process-requires
-    granted-requires
-    same-length-2
-    returns-2)
+    returns)

@@ -11,12 +11,6 @@ type-of-requires c κs = search needs
 may-requires : tie.Need-may-requires
 may-requires c κs = search needs
 
-places-requires : tie.Need-places-requires
-places-requires c κs = search needs
-
-caller-no-requires : tie.Need-caller-no-requires
-caller-no-requires c κs = search needs
-
 occupied-requires : tie.Need-occupied-requires
 occupied-requires c κs = search needs
 
@@ -35,9 +29,6 @@ unless-requires-2 c κs = search needs
 first-requires : tie.Need-first-requires
 first-requires c κs = search needs
 
-first-requires-2 : tie.Need-first-requires-2
-first-requires-2 c κs = search needs
-
 returns : tie.Need-returns
 unfolding assignRoleNo
 returns c = cc
@@ -48,13 +39,10 @@ assign-role-no-spec =
     (tie.spec
     type-of-requires
     may-requires
-    places-requires
-    caller-no-requires
     occupied-requires
     unless-requires
     may-assign-requires
     passes-requires
     unless-requires-2
     first-requires
-    first-requires-2
     returns)

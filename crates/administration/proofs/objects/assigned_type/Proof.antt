@@ -1,6 +1,7 @@
 -- Inherit parent by H10; any other type is itself.
 -- Assumes nothing.
 use borrow.Author.Tests.{eq-eqb, ne-eqb}
+use Rattle.model.specs.Numbers.{INHERIT-PARENT}
 use Rattle.model.specs.Administration.{assignedType}
 use borrow.Author.Needs.{needs}
 use Rattle.administration.proofs.objects.assigned_type.Statement.{statement}
@@ -11,11 +12,11 @@ inherited-requires c κs = search needs
 
 returns : tie.Need-returns
 unfolding assignedType
-returns c = rw (eq-eqb _ 32 (c .before .if1 .taken)) (c .inherited .ensures)
+returns c = rw (eq-eqb _ INHERIT-PARENT (c .before .if1 .taken)) (c .inherited .ensures)
 
 returns-2 : tie.Need-returns-2
 unfolding assignedType
-returns-2 c = rw (ne-eqb _ 32 (c .if1 .left))
+returns-2 c = rw (ne-eqb _ INHERIT-PARENT (c .if1 .left))
 
 pub assigned-type-spec : {M : Type 1} → statement M
 assigned-type-spec = tie.close (tie.spec inherited-requires returns returns-2)

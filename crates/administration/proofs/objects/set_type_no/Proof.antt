@@ -17,15 +17,6 @@ type-of-requires c κs = search needs
 may-requires-2 : tie.Need-may-requires-2
 may-requires-2 c κs = search needs
 
-places-requires : tie.Need-places-requires
-places-requires c κs = search needs
-
-ok-type-in-requires : tie.Need-ok-type-in-requires
-ok-type-in-requires c κs = search needs
-
-caller-no-requires : tie.Need-caller-no-requires
-caller-no-requires c κs = search needs
-
 occupied-requires : tie.Need-occupied-requires
 occupied-requires c κs = search needs
 
@@ -41,9 +32,6 @@ unless-requires-2 c κs = search needs
 first-requires : tie.Need-first-requires
 first-requires c κs = search needs
 
-first-requires-2 : tie.Need-first-requires-2
-first-requires-2 c κs = search needs
-
 returns : tie.Need-returns
 unfolding setTypeNo
 returns c = cc
@@ -56,13 +44,9 @@ set-type-no-spec =
     may-requires
     type-of-requires
     may-requires-2
-    places-requires
-    ok-type-in-requires
-    caller-no-requires
     occupied-requires
     unless-requires
     passes-requires
     unless-requires-2
     first-requires
-    first-requires-2
     returns)

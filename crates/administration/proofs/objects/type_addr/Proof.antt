@@ -1,12 +1,15 @@
--- A file, a process, or else an IPC object.
+-- Each return is the address of that group, by the tests that led there.
 -- Assumes nothing.
-use borrow.Author.Tests.{eq-eqb, ne-eqb}
 use borrow.Author.Needs.{needs}
 use Rattle.administration.proofs.objects.type_addr.Statement.{statement}
 use Rattle.administration.proofs.objects.type_addr.Tie as tie
+use borrow.Author.Tests.{eq-eqb, ne-eqb}
 
 file-addr-requires : tie.Need-file-addr-requires
 file-addr-requires c κs = search needs
+
+cast-result : tie.Need-cast-result
+cast-result c = search needs
 
 add-result : tie.Need-add-result
 add-result c = search needs
@@ -37,6 +40,7 @@ type-addr-spec =
     tie.close
     (tie.spec
     file-addr-requires
+    cast-result
     add-result
     process-addr-requires
     add-result-2

@@ -1,8 +1,8 @@
--- The tests in their order, and the set that the definition writes.
+-- The tests in their order, and the word that the definition writes.
 -- Assumes nothing.
-use mathlib.Core.Path.{_∙_}
+use mathlib.Core.Path.{refl, _∙_}
 use Rattle.model.specs.Administration.{changeSetNo, changeSetRow}
-use Rattle.model.proofs.Granted.{decides}
+use Rattle.model.proofs.Decided.{decides}
 use borrow.Author.Needs.{needs}
 use Rattle.administration.proofs.roles.change_set.Statement.{statement}
 use Rattle.administration.proofs.roles.change_set.Tie as tie
@@ -13,17 +13,11 @@ may-assign-requires c κs = search needs
 may-admin-requires : tie.Need-may-admin-requires
 may-admin-requires c κs = search needs
 
-caller-no-requires : tie.Need-caller-no-requires
-caller-no-requires c κs = search needs
-
 passes-requires : tie.Need-passes-requires
 passes-requires c κs = search needs
 
 unless-requires : tie.Need-unless-requires
 unless-requires c κs = search needs
-
-first-requires : tie.Need-first-requires
-first-requires c κs = search needs
 
 role-addr-requires : tie.Need-role-addr-requires
 role-addr-requires c κs = search needs
@@ -34,15 +28,15 @@ add-at c = search needs
 changed-requires : tie.Need-changed-requires
 changed-requires c κs = search needs
 
-write-requires : tie.Need-write-requires
-write-requires c κs = search needs
+decide-word-requires : tie.Need-decide-word-requires
+decide-word-requires c κs = search needs
 
 same-length : tie.Need-same-length
 same-length c = search needs
 
 returns : tie.Need-returns
 unfolding changeSetNo changeSetRow
-returns c = c .before .before .write .ensures ∙ decides _ _ _ _ _ _ (cc) (simp (c .before .before .before .before .changed .ensures, c .before .before .before .before .before .before .role-addr .ensures))
+returns c = c .before .before .decide-word .ensures ∙ decides _ _ _ _ _ _ _ (cc) refl (simp (c .before .before .before .before .changed .ensures, c .before .before .before .before .before .before .role-addr .ensures))
 
 pub change-set-spec : {M : Type 1} → statement M
 change-set-spec =
@@ -50,13 +44,11 @@ change-set-spec =
     (tie.spec
     may-assign-requires
     may-admin-requires
-    caller-no-requires
     passes-requires
     unless-requires
-    first-requires
     role-addr-requires
     add-at
     changed-requires
-    write-requires
+    decide-word-requires
     same-length
     returns)

@@ -1,10 +1,11 @@
--- Each return rewrites by the tests that led to it; the words of the parent are those of its block.
-use native.Mathlib.Nat.{add-zero}
-use borrow.Author.Tests.{eq-eqb, ne-eqb, lt-ltb, le-ltb}
+-- Each return opens the definition's cases by the tests that led there.
+-- Assumes nothing.
 use borrow.Author.Needs.{needs}
-use Rattle.model.specs.Words.{block}
 use Rattle.formed.proofs.records.link_ok.Statement.{statement}
 use Rattle.formed.proofs.records.link_ok.Tie as tie
+use native.Mathlib.Nat.{add-zero}
+use borrow.Author.Tests.{eq-eqb, ne-eqb, lt-ltb, le-ltb}
+use Rattle.model.specs.Words.{block}
 
 returns : tie.Need-returns
 returns c = rw (eq-eqb _ 0 (c .if1 .taken))
@@ -17,6 +18,9 @@ file-addr-requires c κs = search needs
 
 word-requires : tie.Need-word-requires
 word-requires c κs = search needs
+
+cast-word : tie.Need-cast-word
+cast-word c = search needs
 
 add-word : tie.Need-add-word
 add-word c = search needs
@@ -52,6 +56,7 @@ link-ok-spec =
     returns-2
     file-addr-requires
     word-requires
+    cast-word
     add-word
     word-requires-2
     cast-result

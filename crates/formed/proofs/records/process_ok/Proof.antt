@@ -1,10 +1,10 @@
 -- The first word tells which of the two tests applies, in the definition as in the code.
+use borrow.Author.Needs.{needs}
+use Rattle.formed.proofs.records.process_ok.Statement.{statement}
 use native.Mathlib.Nat.{add-zero}
 use borrow.Author.Tests.{eq-eqb, ne-eqb}
-use borrow.Author.Needs.{needs}
 use Rattle.model.specs.Words.{block}
 use Rattle.model.specs.WellFormed.{processOk}
-use Rattle.formed.proofs.records.process_ok.Statement.{statement}
 use Rattle.formed.proofs.records.process_ok.Tie as tie
 
 process-addr-requires : tie.Need-process-addr-requires
@@ -40,46 +40,43 @@ word-requires-5 c κs = search needs
 returns : tie.Need-returns
 unfolding processOk block
 returns c =
-    let w5 = c .before in
-    let w4 = w5 .before in
-    let w3 = w4 .before in
-    let w2 = w3 .before in
-    let w1 = w2 .before in
-    let a = w1 .before in
-    rw (
-      add-zero,
-      ← a .process-addr .ensures,
-      ← w1 .word .ensures,
-      eq-eqb _ 0 (c .if1 .taken),
-      ← w2 .word2 .ensures,
-      ← w3 .word3 .ensures,
-      ← w4 .word4 .ensures,
-      ← w5 .word5 .ensures,
-    )
+    let i = c .before .before .before .before in
+    let w = i .before in
+    rw (add-zero, ← w .before .process-addr .ensures, ← w .word .ensures, eq-eqb _ 0 (i .if1 .taken)) (cc)
 
-special-forced-requires : tie.Need-special-forced-requires
-special-forced-requires c κs = search needs
+add-word-5 : tie.Need-add-word-5
+add-word-5 c = search needs
+
+word-requires-6 : tie.Need-word-requires-6
+word-requires-6 c κs = search needs
+
+add-word-6 : tie.Need-add-word-6
+add-word-6 c = search needs
+
+word-requires-7 : tie.Need-word-requires-7
+word-requires-7 c κs = search needs
+
+add-word-7 : tie.Need-add-word-7
+add-word-7 c = search needs
+
+word-requires-8 : tie.Need-word-requires-8
+word-requires-8 c κs = search needs
+
+add-word-8 : tie.Need-add-word-8
+add-word-8 c = search needs
+
+word-requires-9 : tie.Need-word-requires-9
+word-requires-9 c κs = search needs
+
+ok-process-forced-requires : tie.Need-ok-process-forced-requires
+ok-process-forced-requires c κs = search needs
 
 returns-2 : tie.Need-returns-2
 unfolding processOk block
 returns-2 c =
-    let w5 = c .before .before in
-    let w4 = w5 .before in
-    let w3 = w4 .before in
-    let w2 = w3 .before in
-    let w1 = w2 .before in
-    let a = w1 .before in
-    rw (
-      add-zero,
-      ← a .process-addr .ensures,
-      ← w1 .word .ensures,
-      ne-eqb _ 0 (c .before .if1 .left),
-      ← w2 .word2 .ensures,
-      ← w3 .word3 .ensures,
-      ← w4 .word4 .ensures,
-      ← w5 .word5 .ensures,
-      ← c .special-forced .ensures,
-    )
+    let i = c .before .before .before .before .before in
+    let w = i .before in
+    rw (add-zero, ← w .before .process-addr .ensures, ← w .word .ensures, ne-eqb _ 0 (i .if1 .left)) (cc)
 
 pub process-ok-spec : {M : Type 1} → statement M
 process-ok-spec =
@@ -96,5 +93,13 @@ process-ok-spec =
     add-word-4
     word-requires-5
     returns
-    special-forced-requires
+    add-word-5
+    word-requires-6
+    add-word-6
+    word-requires-7
+    add-word-7
+    word-requires-8
+    add-word-8
+    word-requires-9
+    ok-process-forced-requires
     returns-2)

@@ -1,9 +1,10 @@
--- The words that are tested are those of the record's block.
+-- The ranges of the words after the sets, one test each.
+-- Assumes nothing.
 use borrow.Author.Needs.{needs}
-use Rattle.model.specs.Words.{block}
-use Rattle.model.specs.WellFormed.{roleOk}
 use Rattle.formed.proofs.records.role_ok.Statement.{statement}
 use Rattle.formed.proofs.records.role_ok.Tie as tie
+use Rattle.model.specs.Words.{block}
+use Rattle.model.specs.WellFormed.{roleOk}
 
 role-addr-requires : tie.Need-role-addr-requires
 role-addr-requires c κs = search needs
@@ -14,54 +15,81 @@ add-word c = search needs
 word-requires : tie.Need-word-requires
 word-requires c κs = search needs
 
+cast-word : tie.Need-cast-word
+cast-word c = search needs
+
 add-word-2 : tie.Need-add-word-2
 add-word-2 c = search needs
-
-word-requires-2 : tie.Need-word-requires-2
-word-requires-2 c κs = search needs
 
 add-word-3 : tie.Need-add-word-3
 add-word-3 c = search needs
 
-word-requires-3 : tie.Need-word-requires-3
-word-requires-3 c κs = search needs
+word-requires-2 : tie.Need-word-requires-2
+word-requires-2 c κs = search needs
+
+ok-type-requires : tie.Need-ok-type-requires
+ok-type-requires c κs = search needs
+
+cast-word-2 : tie.Need-cast-word-2
+cast-word-2 c = search needs
 
 add-word-4 : tie.Need-add-word-4
 add-word-4 c = search needs
 
+add-word-5 : tie.Need-add-word-5
+add-word-5 c = search needs
+
+word-requires-3 : tie.Need-word-requires-3
+word-requires-3 c κs = search needs
+
+ok-type-requires-2 : tie.Need-ok-type-requires-2
+ok-type-requires-2 c κs = search needs
+
+cast-word-3 : tie.Need-cast-word-3
+cast-word-3 c = search needs
+
+add-word-6 : tie.Need-add-word-6
+add-word-6 c = search needs
+
+add-word-7 : tie.Need-add-word-7
+add-word-7 c = search needs
+
 word-requires-4 : tie.Need-word-requires-4
 word-requires-4 c κs = search needs
 
-add-word-5 : tie.Need-add-word-5
-add-word-5 c = search needs
+ok-type-requires-3 : tie.Need-ok-type-requires-3
+ok-type-requires-3 c κs = search needs
+
+cast-word-4 : tie.Need-cast-word-4
+cast-word-4 c = search needs
+
+add-word-8 : tie.Need-add-word-8
+add-word-8 c = search needs
+
+add-word-9 : tie.Need-add-word-9
+add-word-9 c = search needs
 
 word-requires-5 : tie.Need-word-requires-5
 word-requires-5 c κs = search needs
 
-add-word-6 : tie.Need-add-word-6
-add-word-6 c = search needs
+ok-chown-requires : tie.Need-ok-chown-requires
+ok-chown-requires c κs = search needs
+
+cast-word-5 : tie.Need-cast-word-5
+cast-word-5 c = search needs
+
+add-word-10 : tie.Need-add-word-10
+add-word-10 c = search needs
+
+add-word-11 : tie.Need-add-word-11
+add-word-11 c = search needs
 
 word-requires-6 : tie.Need-word-requires-6
 word-requires-6 c κs = search needs
 
 returns : tie.Need-returns
 unfolding roleOk block
-returns c =
-    let w5 = c .before in
-    let w4 = w5 .before in
-    let w3 = w4 .before in
-    let w2 = w3 .before in
-    let w1 = w2 .before in
-    let a = w1 .before in
-    rw (
-      ← a .role-addr .ensures,
-      ← w1 .word .ensures,
-      ← w2 .word2 .ensures,
-      ← w3 .word3 .ensures,
-      ← w4 .word4 .ensures,
-      ← w5 .word5 .ensures,
-      ← c .word6 .ensures,
-    )
+returns c = cc
 
 pub role-ok-spec : {M : Type 1} → statement M
 role-ok-spec =
@@ -70,14 +98,28 @@ role-ok-spec =
     role-addr-requires
     add-word
     word-requires
+    cast-word
     add-word-2
-    word-requires-2
     add-word-3
-    word-requires-3
+    word-requires-2
+    ok-type-requires
+    cast-word-2
     add-word-4
-    word-requires-4
     add-word-5
-    word-requires-5
+    word-requires-3
+    ok-type-requires-2
+    cast-word-3
     add-word-6
+    add-word-7
+    word-requires-4
+    ok-type-requires-3
+    cast-word-4
+    add-word-8
+    add-word-9
+    word-requires-5
+    ok-chown-requires
+    cast-word-5
+    add-word-10
+    add-word-11
     word-requires-6
     returns)

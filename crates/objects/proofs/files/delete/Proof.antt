@@ -1,9 +1,10 @@
--- Refused the row stays; granted the file's place holds a free place's words.
+-- The tests in their order, and zeros at the place.
 -- Assumes nothing.
+use mathlib.Core.Path.{refl, _∙_}
+use Rattle.model.specs.Records.{putFile}
 use Rattle.model.specs.Calls.{deleteRow}
-use Rattle.model.specs.Step.{act}
-use Rattle.model.proofs.Granted.{refuses, grants}
-use mathlib.Core.Path.{refl}
+use Rattle.model.specs.Step.{ruling}
+use Rattle.model.proofs.Decided.{decides}
 use borrow.Author.Needs.{needs}
 use Rattle.objects.proofs.files.delete.Statement.{statement}
 use Rattle.objects.proofs.files.delete.Tie as tie
@@ -11,40 +12,45 @@ use Rattle.objects.proofs.files.delete.Tie as tie
 delete-no-requires : tie.Need-delete-no-requires
 delete-no-requires c κs = search needs
 
-refused-requires : tie.Need-refused-requires
-refused-requires c κs = search needs
+free-file-requires : tie.Need-free-file-requires
+free-file-requires c κs = search needs
+
+file-words-requires : tie.Need-file-words-requires
+file-words-requires c κs = search needs
+
+file-addr-requires : tie.Need-file-addr-requires
+file-addr-requires c κs = search needs
+
+slice-aggregate-decide-words : tie.Need-slice-aggregate-decide-words
+slice-aggregate-decide-words c = search needs
+
+decide-words-requires : tie.Need-decide-words-requires
+decide-words-requires c κs = search needs
 
 same-length : tie.Need-same-length
 same-length c = search needs
 
 returns : tie.Need-returns
-unfolding act
-returns c = refuses _ _ _ _ _ _ (c .before .before .delete-no .ensures) (c .before .if1 .taken) (c .refused .ensures)
-
-put-file-requires : tie.Need-put-file-requires
-put-file-requires c κs = search needs
-
-granted-requires : tie.Need-granted-requires
-granted-requires c κs = search needs
-
-same-length-2 : tie.Need-same-length-2
-same-length-2 c = search needs
-
-returns-2 : tie.Need-returns-2
-unfolding act deleteRow
-returns-2 c =
-    let r = c .before .before .before .before .before in
-    grants _ _ _ _ _ _ _ _ (r .before .delete-no .ensures) (r .if1 .left) (c .granted .ensures) refl (c .before .before .before .put-file .ensures)
+unfolding ruling deleteRow putFile
+returns c =
+    let decide-words = c .before .before in
+    let file-addr = decide-words .before .before in
+    let file-words = file-addr .before .before in
+    let free-file = file-words .before in
+    let delete-no = free-file .before in
+    decide-words .decide-words .ensures
+    ∙ decides _ _ _ _ _ _ _ (delete-no .delete-no .ensures) refl
+    (simp (file-addr .file-addr .ensures, file-words .file-words .ensures, free-file .free-file .ensures))
 
 pub delete-spec : {M : Type 1} → statement M
 delete-spec =
     tie.close
     (tie.spec
     delete-no-requires
-    refused-requires
+    free-file-requires
+    file-words-requires
+    file-addr-requires
+    slice-aggregate-decide-words
+    decide-words-requires
     same-length
-    returns
-    put-file-requires
-    granted-requires
-    same-length-2
-    returns-2)
+    returns)

@@ -1,19 +1,18 @@
+-- The tests in their order.
+-- Assumes nothing.
+use Rattle.model.specs.Calls.{deleteNo}
 use borrow.Author.Needs.{needs}
 use Rattle.objects.proofs.files.delete_no.Statement.{statement}
 use Rattle.objects.proofs.files.delete_no.Tie as tie
-use Rattle.model.specs.Calls.{deleteNo}
 
-eff-type-requires : tie.Need-eff-type-requires
-eff-type-requires c κs = search needs
+value-at-requires : tie.Need-value-at-requires
+value-at-requires c κs = search needs
 
 may-requires : tie.Need-may-requires
 may-requires c κs = search needs
 
 removable-requires : tie.Need-removable-requires
 removable-requires c κs = search needs
-
-caller-no-requires : tie.Need-caller-no-requires
-caller-no-requires c κs = search needs
 
 occupied-requires : tie.Need-occupied-requires
 occupied-requires c κs = search needs
@@ -33,9 +32,6 @@ first-requires c κs = search needs
 first-requires-2 : tie.Need-first-requires-2
 first-requires-2 c κs = search needs
 
-first-requires-3 : tie.Need-first-requires-3
-first-requires-3 c κs = search needs
-
 returns : tie.Need-returns
 unfolding deleteNo
 returns c = cc
@@ -44,15 +40,13 @@ pub delete-no-spec : {M : Type 1} → statement M
 delete-no-spec =
     tie.close
     (tie.spec
-    eff-type-requires
+    value-at-requires
     may-requires
     removable-requires
-    caller-no-requires
     occupied-requires
     unless-requires
     unless-requires-2
     unless-requires-3
     first-requires
     first-requires-2
-    first-requires-3
     returns)

@@ -1,4 +1,4 @@
--- The record after is the one before but for `live` and the role, which is how the definition writes it out.
+-- Field by field as the definition writes it out.
 use mathlib.Core.Path.{refl}
 use Rattle.model.specs.Transitions.{withRole}
 use Rattle.rules.proofs.transitions.with_role.Statement.{statement}

@@ -1,11 +1,12 @@
--- The group's base, length of a record and count are those of its places: `free-in` says the rest.
+-- Each group is one search of the same kind.
+-- Assumes nothing.
+use borrow.Author.Needs.{needs}
+use Rattle.tables.proofs.places.free_place.Statement.{statement}
+use Rattle.tables.proofs.places.free_place.Tie as tie
 use mathlib.Core.Path.{_∙_}
 use native.Mathlib.Omega.{arith}
 use borrow.Author.Tests.{eq-eqb, ne-eqb}
-use borrow.Author.Needs.{needs}
 use Rattle.tables.proofs.Laws.{free-in}
-use Rattle.tables.proofs.places.free_place.Statement.{statement}
-use Rattle.tables.proofs.places.free_place.Tie as tie
 
 cast-lowest-free : tie.Need-cast-lowest-free
 cast-lowest-free c = search needs
@@ -19,14 +20,17 @@ lowest-free-requires c κs = search needs
 cast-lowest-free-3 : tie.Need-cast-lowest-free-3
 cast-lowest-free-3 c = search needs
 
-lowest-free-requires-2 : tie.Need-lowest-free-requires-2
-lowest-free-requires-2 c κs = search needs
-
 cast-lowest-free-4 : tie.Need-cast-lowest-free-4
 cast-lowest-free-4 c = search needs
 
+lowest-free-requires-2 : tie.Need-lowest-free-requires-2
+lowest-free-requires-2 c κs = search needs
+
 cast-lowest-free-5 : tie.Need-cast-lowest-free-5
 cast-lowest-free-5 c = search needs
+
+cast-lowest-free-6 : tie.Need-cast-lowest-free-6
+cast-lowest-free-6 c = search needs
 
 lowest-free-requires-3 : tie.Need-lowest-free-requires-3
 lowest-free-requires-3 c κs = search needs
@@ -56,9 +60,10 @@ free-place-spec =
     cast-lowest-free-2
     lowest-free-requires
     cast-lowest-free-3
-    lowest-free-requires-2
     cast-lowest-free-4
+    lowest-free-requires-2
     cast-lowest-free-5
+    cast-lowest-free-6
     lowest-free-requires-3
     returns
     returns-2

@@ -1,37 +1,41 @@
--- The words that are read are those of the record's block.
-use native.Mathlib.Nat.{add-zero}
+-- Each field is the word of the layout.
+-- Assumes nothing.
 use borrow.Author.Needs.{needs}
-use Rattle.model.specs.Words.{block}
-use Rattle.model.specs.Records.{processAt}
 use Rattle.tables.proofs.records.process_at.Statement.{statement}
 use Rattle.tables.proofs.records.process_at.Tie as tie
+use native.Mathlib.Nat.{add-zero}
+use Rattle.model.specs.Words.{block}
+use Rattle.model.specs.Records.{processAt}
 
 process-addr-requires : tie.Need-process-addr-requires
 process-addr-requires c κs = search needs
 
-word-requires : tie.Need-word-requires
-word-requires c κs = search needs
-
 add-word : tie.Need-add-word
 add-word c = search needs
 
-word-requires-2 : tie.Need-word-requires-2
-word-requires-2 c κs = search needs
+word-requires : tie.Need-word-requires
+word-requires c κs = search needs
 
 add-word-2 : tie.Need-add-word-2
 add-word-2 c = search needs
 
-word-requires-3 : tie.Need-word-requires-3
-word-requires-3 c κs = search needs
+word-requires-2 : tie.Need-word-requires-2
+word-requires-2 c κs = search needs
 
 add-word-3 : tie.Need-add-word-3
 add-word-3 c = search needs
 
-word-requires-4 : tie.Need-word-requires-4
-word-requires-4 c κs = search needs
+word-requires-3 : tie.Need-word-requires-3
+word-requires-3 c κs = search needs
 
 add-word-4 : tie.Need-add-word-4
 add-word-4 c = search needs
+
+word-requires-4 : tie.Need-word-requires-4
+word-requires-4 c κs = search needs
+
+add-word-5 : tie.Need-add-word-5
+add-word-5 c = search needs
 
 word-requires-5 : tie.Need-word-requires-5
 word-requires-5 c κs = search needs
@@ -49,7 +53,6 @@ returns c =
     let w1 = w2 .before in
     let a = w1 .before in
     rw (
-      add-zero,
       ← a .process-addr .ensures,
       ← w1 .word .ensures,
       ← w2 .word2 .ensures,
@@ -64,14 +67,15 @@ process-at-spec =
     tie.close
     (tie.spec
     process-addr-requires
-    word-requires
     add-word
-    word-requires-2
+    word-requires
     add-word-2
-    word-requires-3
+    word-requires-2
     add-word-3
-    word-requires-4
+    word-requires-3
     add-word-4
+    word-requires-4
+    add-word-5
     word-requires-5
     forced-of-requires
     returns)

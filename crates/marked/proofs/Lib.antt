@@ -1,0 +1,4 @@
+pub mod Fresh
+pub mod Computing
+pub mod Marked
+pub mod Confined

@@ -1,0 +1,100 @@
+// The claim is checked: accepted as the box is set up, and refused after each careless change, by the rule that the change breaks.
+use crate::administrator::compatible;
+use crate::administrator::file_right;
+use crate::administrator::incompatible;
+use crate::administrator::no_file_right;
+use crate::asking::access;
+use crate::asking::execute;
+use crate::blame::ask_checker;
+use crate::claim::fill;
+use crate::names::KILOPASCALS;
+use crate::names::KILOPASCALS_LIST;
+use crate::names::PLANNER;
+use crate::names::PLANNER_PROCESS;
+use crate::names::SCHEDULER;
+use crate::names::SCHEDULER_PROGRAM;
+use crate::names::SERVICE_PROGRAMS;
+use crate::tell::scene;
+use model::layout::CLAIM_LENGTH;
+use model::numbers::EXECUTE;
+use model::numbers::WRITE;
+
+fn careless_write(t: &mut [u32], w: &[u32]) {
+    scene(b"A careless right.");
+    file_right(
+        t,
+        b"The planner may write lists in kilopascals",
+        PLANNER,
+        KILOPASCALS,
+        WRITE,
+    );
+    ask_checker(t, w);
+    no_file_right(
+        t,
+        b"The administrator takes that right back",
+        PLANNER,
+        KILOPASCALS,
+        WRITE,
+    );
+}
+
+fn careless_role(t: &mut [u32], w: &[u32]) {
+    scene(b"A careless role.");
+    compatible(
+        t,
+        b"A planner may turn into a scheduler",
+        PLANNER,
+        SCHEDULER,
+    );
+    ask_checker(t, w);
+    incompatible(
+        t,
+        b"The administrator takes that role back",
+        PLANNER,
+        SCHEDULER,
+    );
+    ask_checker(t, w);
+}
+
+fn careless_program(t: &mut [u32], w: &[u32]) {
+    scene(b"A right that looks harmless.");
+    file_right(
+        t,
+        b"The planner may run service programs",
+        PLANNER,
+        SERVICE_PROGRAMS,
+        EXECUTE,
+    );
+    ask_checker(t, w);
+}
+
+// What the checker named is what would happen.
+fn unasked(t: &mut [u32]) {
+    scene(b"Had nobody asked the checker, the 45 would be in the wrong list again.");
+    execute(
+        t,
+        b"The planner's script runs the scheduler's program",
+        PLANNER_PROCESS,
+        SCHEDULER_PROGRAM,
+    );
+    access(
+        t,
+        b"It writes 45 to the list in kilopascals",
+        PLANNER_PROCESS,
+        KILOPASCALS_LIST,
+        WRITE,
+    );
+}
+
+pub(crate) fn run(t: &mut [u32]) {
+    let mut w = [0u32; CLAIM_LENGTH];
+    fill(&mut w);
+    scene(
+        b"The planner's claim: its family, which is itself and every process that it starts, never writes, makes or deletes a list in kilopascals.",
+    );
+    ask_checker(t, &w);
+    careless_write(t, &w);
+    careless_role(t, &w);
+    careless_program(t, &w);
+    unasked(t);
+}

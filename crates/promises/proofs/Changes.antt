@@ -1,0 +1,161 @@
+-- What a call changes. A refusal leaves the row; a grant leaves the row with one run of words put into it, and what is read after a put is known
+-- once for every address and length.
+-- Assumes nothing.
+use Prim.Native.Nat.{_+_, _<_, _≤_, ℕ}
+use mathlib.Core.List.{List, [], _∷_}
+use mathlib.Core.Path.{_∙_, _≡_, ap, refl, sym}
+use mathlib.Core.Bool.{true, not}
+use native.Mathlib.Nat.{add-zero}
+use native.Mathlib.Omega.{arith}
+use borrow.Author.Tests.{ltb-true, not-false}
+use lib.Seq.{set-getD}
+use lib.ListN.{length, set}
+use Rattle.sets.proofs.Below.{first-least}
+use Rattle.sets.proofs.Sets.{added-there, removed-absent}
+use Rattle.model.specs.declared.Call.{Call}
+use Rattle.model.specs.declared.Change.{Change}
+use Rattle.model.specs.Numbers.{FILES, GROUPS, IPCS, _unless_, _▹_, places}
+use Rattle.model.specs.Layout.{rowLength}
+use Rattle.model.specs.Ranges.{rangedChange}
+use Rattle.model.specs.Words.{put, _!_}
+use Rattle.model.specs.Records.{putFile, putIpc, putProcess, freePlace, hasRight, occupied}
+use Rattle.model.specs.WellFormed.{wellFormed}
+use Rattle.model.specs.Outcome.{Outcome, granting, Ruling}
+use Rattle.model.specs.Calls.{changeOwnerRow, changeRoleRow, cloneRow, createIpcRow, createRow, deleteIpcRow, deleteRow, executeRow, exitRow}
+use Rattle.model.specs.Administration.{changeRightRow, changeSetRow, rulingOn, setDefaultTypeRow, setForcedRow, setInitialRow, setProcessForcedRow, setRoleAdminRow, setTypeRow, setUserRoleRow, typeAddr}
+use Rattle.model.specs.Step.{ruling, step, number}
+use Rattle.model.proofs.Words.{block-put-same, put-length, word-put-other}
+use Rattle.model.proofs.Records.{by-group, free-place}
+use Rattle.model.proofs.Decided.{decide-granting, decide-refusing, decided, tested}
+use Rattle.model.proofs.Granted.{Granted, clone-granted, create-granted, create-ipc-granted, granted-by}
+use Rattle.model.proofs.Formed.{facts}
+use Rattle.promises.specs.Promises.{A-granted-call-changes-one-record, A-refused-call-changes-nothing, A-grant-answers-the-place-taken, Adding-what-is-there-or-removing-what-is-not-changes-nothing, The-place-taken-is-the-lowest-free-one}
+use Rattle.promises.specs.Writes.{changeWrites, writes, placeTaken, Write}
+use Rattle.promises.proofs.Numbers.{step-number, step-granted}
+use denote.Index.{place}
+
+-- ---- refused
+
+pub a-refused-call-changes-nothing : A-refused-call-changes-nothing
+unfolding step
+a-refused-call-changes-nothing t c call h =
+    let n = 1 unless wellFormed t ▹ number t c call in
+    let e = decide-refusing t n (ruling t c call .place) (ruling t c call .row) (λ z. h (step-number t c call ∙ z)) in
+    (ap (λ (o : Outcome). o .after) e, ap (λ (o : Outcome). o .answer .place) e)
+
+-- ---- granted: the row with what the call writes
+
+one-word : (t : List ℕ) (a v : ℕ) → set t a v ≡ put t a (v ∷ [])
+unfolding put
+one-word t a v = rw add-zero
+
+module _ (t : List ℕ) (c : ℕ) where
+  -- a ruling leaves the row with what is written, and answers a place
+  abbrev Leaves : Write → ℕ → Ruling → Type 0
+  Leaves x place r = (r .row ≡ put t (x .at) (x .words)) × (r .place ≡ place)
+
+  change-leaves : (change : Change) → Leaves (changeWrites t change) 0 (rulingOn t c change)
+  unfolding rulingOn changeSetRow setUserRoleRow setInitialRow setForcedRow setProcessForcedRow setDefaultTypeRow setRoleAdminRow setTypeRow changeRightRow
+  change-leaves (Change.AddRole s r member) = (one-word t _ _, refl)
+  change-leaves (Change.RemoveRole s r member) = (one-word t _ _, refl)
+  change-leaves (Change.SetUserRole u r) = (one-word t _ _, refl)
+  change-leaves (Change.SetInitial f v) = (one-word t _ _, refl)
+  change-leaves (Change.SetForced f v) = (one-word t _ _, refl)
+  change-leaves (Change.SetProcessForced p v) = (one-word t _ _, refl)
+  change-leaves (Change.SetDefaultType which r v) = (one-word t _ _, refl)
+  change-leaves (Change.SetRoleAdmin r mark) = (one-word t _ _, refl)
+  change-leaves (Change.SetType g o v) = (one-word t (typeAddr g o) v, refl)
+  change-leaves (Change.AddRight g r k right) = (one-word t _ _, refl)
+  change-leaves (Change.RemoveRight g r k right) = (one-word t _ _, refl)
+
+  call-leaves : (call : Call) → Leaves (writes t c call) (placeTaken t call) (ruling t c call)
+  unfolding ruling cloneRow exitRow executeRow changeOwnerRow changeRoleRow createRow deleteRow createIpcRow deleteIpcRow putProcess putFile putIpc put
+  call-leaves (Call.Access g o right) = (refl, refl)
+  call-leaves Call.Clone = (refl, refl)
+  call-leaves Call.Exit = (refl, refl)
+  call-leaves (Call.Execute f) = (refl, refl)
+  call-leaves (Call.ChangeOwner u) = (refl, refl)
+  call-leaves (Call.ChangeRole r) = (refl, refl)
+  call-leaves (Call.Create kind y) = (refl, refl)
+  call-leaves (Call.Delete o) = (refl, refl)
+  call-leaves Call.CreateIpc = (refl, refl)
+  call-leaves (Call.DeleteIpc i) = (refl, refl)
+  call-leaves (Call.Administer change) = change-leaves change
+
+  -- ---- it lies within the tables
+
+  type-fits : (g o : ℕ) → g < GROUPS → o < places g → typeAddr g o + 1 ≤ rowLength
+  type-fits g o = by-group (λ g. o < places g → typeAddr g o + 1 ≤ rowLength) (λ l. omega arith) (λ l. omega arith) (λ l. omega arith) g
+
+  change-fits : (change : Change) → rangedChange change ≡ true → changeWrites t change .at + length (changeWrites t change .words) ≤ rowLength
+  change-fits (Change.AddRole s r member) l = let h = simp tested at l in omega arith
+  change-fits (Change.RemoveRole s r member) l = let h = simp tested at l in omega arith
+  change-fits (Change.SetUserRole u r) l = let h = simp tested at l in omega arith
+  change-fits (Change.SetInitial f v) l = let h = simp tested at l in omega arith
+  change-fits (Change.SetForced f v) l = let h = simp tested at l in omega arith
+  change-fits (Change.SetProcessForced p v) l = let h = simp tested at l in omega arith
+  change-fits (Change.SetDefaultType which r v) l = let h = simp tested at l in omega arith
+  change-fits (Change.SetRoleAdmin r mark) l = let h = simp tested at l in omega arith
+  change-fits (Change.SetType g o v) l = let h = simp tested at l in type-fits g o (h .0 .0) (h .0 .1)
+  change-fits (Change.AddRight g r k right) l = let h = simp tested at l in omega arith
+  change-fits (Change.RemoveRight g r k right) l = let h = simp tested at l in omega arith
+
+  call-fits : (call : Call) → Granted t c call → writes t c call .at + length (writes t c call .words) ≤ rowLength
+  unfolding ruling
+  call-fits (Call.Access g o right) h = omega arith
+  call-fits Call.Clone h = let l = clone-granted t c .0 (h .ruled) .room in omega arith
+  call-fits Call.Exit h = let l = h .caller .placed in omega arith
+  call-fits (Call.Execute f) h = let l = h .caller .placed in omega arith
+  call-fits (Call.ChangeOwner u) h = let l = h .caller .placed in omega arith
+  call-fits (Call.ChangeRole r) h = let l = h .caller .placed in omega arith
+  call-fits (Call.Create kind y) h = let l = create-granted t c y .0 (h .ruled) .room in omega arith
+  call-fits (Call.Delete o) h = let l = ltb-true o FILES (h .ranged) in omega arith
+  call-fits Call.CreateIpc h = let l = create-ipc-granted t c .0 (h .ruled) .room in omega arith
+  call-fits (Call.DeleteIpc i) h = let l = ltb-true i IPCS (h .ranged) in omega arith
+  call-fits (Call.Administer change) h = change-fits change (h .ranged)
+
+granted-outcome : (t : List ℕ) (c : ℕ) (call : Call) → step t c call .answer .number ≡ 0
+    → step t c call ≡ granting (ruling t c call .place) (ruling t c call .row)
+unfolding step
+granted-outcome t c call e =
+    decide-granting t (1 unless wellFormed t ▹ number t c call) (ruling t c call .place) (ruling t c call .row) (sym (step-number t c call) ∙ e)
+
+pub a-granted-call-changes-one-record : A-granted-call-changes-one-record
+a-granted-call-changes-one-record t c call e =
+    let h = step-granted t c call .0 e in
+    let fits = call-fits t c call (granted-by t c call .0 (h .1)) in
+    let sized = facts t (h .0) .sized in
+    let row : step t c call .after ≡ put t (writes t c call .at) (writes t c call .words) =
+    ap (λ (o : Outcome). o .after) (granted-outcome t c call e) ∙ call-leaves t c call .0 in
+    rw row (record { sized = put-length t _ _; there = block-put-same t _ _ (omega arith); others = word-put-other t _ _ })
+
+-- ---- the place answered
+
+pub a-grant-answers-the-place-taken : A-grant-answers-the-place-taken
+a-grant-answers-the-place-taken t c call e = ap (λ (o : Outcome). o .answer .place) (granted-outcome t c call e) ∙ call-leaves t c call .1
+
+pub the-place-taken-is-the-lowest-free-one : The-place-taken-is-the-lowest-free-one
+unfolding freePlace
+the-place-taken-is-the-lowest-free-one t g l = (
+  free-place t g l,
+  λ p m. not-false (occupied t g p) (first-least (λ p. not (occupied t g p)) (places g) p m),
+)
+
+-- ---- H11
+
+same-word : (t : List ℕ) (a v : ℕ) → v ≡ t ! a → set t a v ≡ t
+same-word t a v e = rw e (set-getD t a 0)
+
+-- a grant that leaves the row leaves it in either case
+stays : (t : List ℕ) (c : ℕ) (call : Call) → ruling t c call .row ≡ t → step t c call .after ≡ t
+unfolding step
+stays t c call e = decided t _ (ruling t c call .place) (ruling t c call .row) (λ u. u ≡ t) refl (λ z. e)
+
+pub adding-what-is-there-or-removing-what-is-not-changes-nothing : Adding-what-is-there-or-removing-what-is-not-changes-nothing
+unfolding ruling rulingOn changeSetRow changeRightRow hasRight
+adding-what-is-there-or-removing-what-is-not-changes-nothing t c = (
+  λ s r member h. stays t c (Call.Administer (Change.AddRole s r member)) (same-word t _ _ (added-there _ member h)),
+  λ s r member h. stays t c (Call.Administer (Change.RemoveRole s r member)) (same-word t _ _ (removed-absent _ member h)),
+  λ g r k right h. stays t c (Call.Administer (Change.AddRight g r k right)) (same-word t _ _ (added-there _ right h)),
+  λ g r k right h. stays t c (Call.Administer (Change.RemoveRight g r k right)) (same-word t _ _ (removed-absent _ right h)),
+)

@@ -1,0 +1,88 @@
+/* Each word of each benchmark's row, and of its claim, is set to numbers around every limit in turn; whatever the row then
+   is, well formed or not, both versions must answer alike, and leave the same tables behind. */
+#include "same.h"
+#include "../plain/monitor.h"
+#include "good.h"
+#include "tables.h"
+#include <stdio.h>
+#include <string.h>
+
+static uint32_t row[RC_WORDS], other[RC_WORDS], claim[RC_CLAIM_WORDS];
+
+static const uint32_t around[] = {0, 1, 2, 3, 15, 16, 31, 32, 33, 34, 35, 36, 37, 255, 256, 0x20000000, 0xffffffff};
+
+#define AROUND (sizeof around / sizeof around[0])
+
+/* One call by each, the good one on a copy. */
+static bool same_call(uint32_t kind, uint32_t caller, uint32_t a, uint32_t b, uint32_t c)
+{
+    uint32_t before[RC_WORDS];
+    memcpy(before, row, sizeof row);
+    memcpy(other, row, sizeof row);
+    struct rc_answer plain = plain_call(row, RC_WORDS, kind, caller, a, b, c, 0);
+    struct rc_answer good = good_call(other, RC_WORDS, kind, caller, a, b, c, 0);
+    bool same = plain.number == good.number && plain.place == good.place && memcmp(row, other, sizeof row) == 0;
+    memcpy(row, before, sizeof row);
+    return same;
+}
+
+static bool same_calls(uint32_t n)
+{
+    return same_call(RC_CALL_ACCESS, CALLER, n % 4, PROGRAM, RC_RIGHT_READ) && same_call(RC_CALL_CLONE, CALLER, 0, 0, 0) &&
+           same_call(RC_CALL_EXIT, n, 0, 0, 0) && same_call(RC_CALL_EXECUTE, CALLER, PROGRAM, 0, 0) &&
+           same_call(RC_CALL_EXECUTE, CALLER, n, 0, 0) && same_call(RC_CALL_CHANGE_OWNER, CALLER, n, 0, 0) &&
+           same_call(RC_CALL_CHANGE_ROLE, CALLER, n, 0, 0) && same_call(RC_CALL_CREATE, CALLER, RC_DIR, FOLDER, 0) &&
+           same_call(RC_CALL_CREATE, CALLER, n, n, 0) && same_call(RC_CALL_DELETE, CALLER, LAST_FILE, 0, 0) &&
+           same_call(RC_CALL_DELETE, CALLER, n, 0, 0);
+}
+
+static bool same_climb(uint32_t file)
+{
+    struct rc_found plain = plain_effective_type(row, RC_WORDS, file), good = good_effective_type(row, RC_WORDS, file);
+    return plain.number == good.number && plain.value == good.value && plain.climbed == good.climbed;
+}
+
+static bool same_verdict(void)
+{
+    struct rc_verdict plain = plain_check_claim(row, RC_WORDS, claim, RC_CLAIM_WORDS);
+    struct rc_verdict good = good_check_claim(row, RC_WORDS, claim, RC_CLAIM_WORDS);
+    return plain.number == good.number && plain.rule == good.rule;
+}
+
+/* All answers on the row and the claim as they are; calls only where one is granted at all. */
+static bool same_answers(uint32_t n)
+{
+    bool formed = plain_well_formed(row, RC_WORDS);
+    if (formed != good_well_formed(row, RC_WORDS) || !same_verdict())
+        return false;
+    return !formed || (same_calls(n) && same_climb(DEEP) && same_climb(n));
+}
+
+/* The words from..to of a list, each with every number. */
+static bool same_around(uint32_t *words, size_t from, size_t to, size_t step)
+{
+    for (size_t at = from; at < to; at += step)
+        for (size_t i = 0; i < AROUND; i++) {
+            uint32_t kept = words[at];
+            words[at] = around[i];
+            bool same = same_answers(around[i]);
+            words[at] = kept;
+            if (!same) {
+                fprintf(stderr, "bench: good and plain differ with word %zu at %u\n", at, around[i]);
+                return false;
+            }
+        }
+    return true;
+}
+
+bool good_is_same(void)
+{
+    static void (*const made[])(uint32_t *, uint32_t *) = {dense_claim, sparse_claim};
+    for (size_t i = 0; i < sizeof made / sizeof made[0]; i++) {
+        made[i](row, claim);
+        if (!same_around(row, 0, RC_RIGHTS_AT, 1) || !same_around(row, RC_RIGHTS_AT, RC_WORDS, 7) ||
+            !same_around(claim, 0, RC_CLAIM_WORDS, 1))
+            return false;
+    }
+    return true;
+}

@@ -1,0 +1,230 @@
+#include "marked.h"
+#include "../plain/monitor.h"
+#include "rows.h"
+#include <inttypes.h>
+#include <stdio.h>
+#include <string.h>
+
+#define BIT(n) (UINT32_C(1) << (n))
+
+static const struct monitor {
+    const char *name;
+    struct rc_answer (*call)(uint32_t *, size_t, uint32_t, uint32_t, uint32_t, uint32_t, uint32_t, uint32_t);
+    struct rc_answer (*fresh)(uint32_t *, size_t);
+    bool (*well_formed)(const uint32_t *, size_t);
+    struct rc_found (*type)(const uint32_t *, size_t, uint32_t);
+    struct rc_found (*initial)(const uint32_t *, size_t, uint32_t);
+    struct rc_found (*forced)(const uint32_t *, size_t, uint32_t);
+    struct rc_verdict (*claim)(const uint32_t *, size_t, const uint32_t *, size_t);
+} monitors[] = {
+    {"library", rc_call, rc_fresh, rc_well_formed, rc_effective_type, rc_effective_initial, rc_effective_forced,
+     rc_check_claim},
+    {"plain C", plain_call, plain_fresh, plain_well_formed, plain_effective_type, plain_effective_initial,
+     plain_effective_forced, plain_check_claim},
+};
+
+static const struct monitor *m;
+static uint32_t row[RC_WORDS];
+static uint32_t *const p0 = row + RC_PROCESSES_AT; /* the record of process 0 */
+static bool good;
+
+static void expect(const char *example, const char *what, uint32_t got, uint32_t wanted)
+{
+    if (got == wanted)
+        return;
+    printf("DIFFERENCE in example %s, %s: %s is %" PRIu32 ", wanted %" PRIu32 "\n", example, m->name, what, got, wanted);
+    good = false;
+}
+
+static void fresh(void)
+{
+    memset(row, 0xff, sizeof row);
+    expect("fresh", "number", m->fresh(row, RC_WORDS).number, 0);
+    expect("fresh", "well formed", m->well_formed(row, RC_WORDS), 1);
+}
+
+/* Process 0 calls. */
+static uint32_t call(uint32_t kind, uint32_t a, uint32_t b, uint32_t c, uint32_t d)
+{
+    return m->call(row, RC_WORDS, kind, 0, a, b, c, d).number;
+}
+
+static void add_right(uint32_t group, uint32_t role, uint32_t type, uint32_t right)
+{
+    *rights_at(row, group, role, type) |= BIT(right);
+}
+
+static void put_file(uint32_t place, uint32_t kind, uint32_t parent, uint32_t initial, uint32_t forced)
+{
+    uint32_t *f = file_at(row, place);
+    f[RC_FILE_KIND] = kind;
+    f[RC_FILE_PARENT] = parent;
+    f[RC_FILE_DEPTH] = file_at(row, parent)[RC_FILE_DEPTH] + 1;
+    f[RC_FILE_TYPE] = RC_INHERIT_PARENT;
+    f[RC_FILE_INITIAL] = initial;
+    f[RC_FILE_FORCED] = forced;
+}
+
+/* Process 0 in role 3, and file 1 below the root, which it may execute. */
+static void role_3_and_file(uint32_t initial, uint32_t forced)
+{
+    fresh();
+    p0[RC_PROCESS_ROLE] = 3;
+    put_file(1, RC_FILE, 0, initial, forced);
+    add_right(RC_GROUP_FILESYSTEM, 3, 0, RC_RIGHT_EXECUTE);
+}
+
+static void a1_to_a2(void)
+{
+    fresh();
+    expect("a1", "number", call(RC_CALL_ACCESS, RC_GROUP_FILESYSTEM, 0, RC_RIGHT_READ, 0), 5);
+    expect("a2", "number", call(RC_CALL_ADD_RIGHT, RC_GROUP_FILESYSTEM, 1, 2, RC_RIGHT_WRITE), 0);
+    expect("a2", "entry", *rights_at(row, RC_GROUP_FILESYSTEM, 1, 2), BIT(RC_RIGHT_WRITE));
+}
+
+static void a3_to_a5(void)
+{
+    role_3_and_file(7, RC_UP_MIXED);
+    role_at(row, 3)[RC_ROLE_PROCESS_EXECUTE] = 5;
+    expect("a3", "number", call(RC_CALL_EXECUTE, 1, 0, 0, 0), 0);
+    expect("a3", "role", p0[RC_PROCESS_ROLE], 7);
+    expect("a3", "type", p0[RC_PROCESS_TYPE], 5);
+    expect("a3", "forced", p0[RC_PROCESS_FORCED], 36);
+
+    role_3_and_file(RC_USE_FORCED_ROLE, 9);
+    expect("a4", "number", call(RC_CALL_EXECUTE, 1, 0, 0, 0), 0);
+    expect("a4", "role", p0[RC_PROCESS_ROLE], 9);
+    expect("a4", "forced", p0[RC_PROCESS_FORCED], 9);
+
+    user_at(row, 2)[RC_USER_ROLE] = 4;
+    add_right(RC_GROUP_PROCESS, 9, 0, RC_RIGHT_CHANGE_OWNER);
+    expect("a5", "number", call(RC_CALL_CHANGE_OWNER, 2, 0, 0, 0), 0);
+    expect("a5", "role", p0[RC_PROCESS_ROLE], 9);
+    expect("a5", "owner", p0[RC_PROCESS_OWNER], 2);
+}
+
+/* Process 0 in role 3 with this forced value changes its owner to user 2, whose default role is 4. */
+static void changes_owner(const char *example, uint32_t forced, uint32_t chown_type, uint32_t create_type)
+{
+    fresh();
+    p0[RC_PROCESS_ROLE] = 3;
+    p0[RC_PROCESS_TYPE] = 1;
+    p0[RC_PROCESS_FORCED] = forced;
+    user_at(row, 2)[RC_USER_ROLE] = 4;
+    role_at(row, 3)[RC_ROLE_PROCESS_CHOWN] = chown_type;
+    role_at(row, 4)[RC_ROLE_PROCESS_CREATE] = create_type;
+    add_right(RC_GROUP_PROCESS, 3, 1, RC_RIGHT_CHANGE_OWNER);
+    expect(example, "number", call(RC_CALL_CHANGE_OWNER, 2, 0, 0, 0), 0);
+}
+
+static void a6_to_a7(void)
+{
+    changes_owner("a6", RC_INHERIT_USER, RC_INHERIT_PARENT, RC_INHERIT_PARENT);
+    expect("a6", "role", p0[RC_PROCESS_ROLE], 4);
+    changes_owner("a7", RC_UP_MIXED, RC_USE_NEW_ROLE_DEF_CREATE, 6);
+    expect("a7", "type", p0[RC_PROCESS_TYPE], 6);
+    changes_owner("a7", RC_UP_MIXED, RC_USE_NEW_ROLE_DEF_CREATE, RC_INHERIT_PARENT);
+    expect("a7", "type", p0[RC_PROCESS_TYPE], 1);
+}
+
+static void a8_to_a10(void)
+{
+    fresh();
+    for (uint32_t depth = 1; depth <= 15; depth++)
+        put_file(depth, RC_DIR, depth - 1, RC_INHERIT_PARENT, RC_INHERIT_PARENT);
+    expect("a8", "type", m->type(row, RC_WORDS, 15).value, 0);
+    expect("a8", "climbed", m->type(row, RC_WORDS, 15).climbed, 15);
+
+    fresh();
+    expect("a9", "number", call(RC_CALL_EXIT, 0, 0, 0, 0), 6);
+
+    uint32_t claim[RC_CLAIM_WORDS] = {0};
+    expect("a10", "number", m->claim(row, RC_WORDS, claim, RC_CLAIM_WORDS).number, 9);
+    expect("a10", "rule", m->claim(row, RC_WORDS, claim, RC_CLAIM_WORDS).rule, 1);
+    claim[RC_CLAIM_ROLES] = claim[RC_CLAIM_PROCESS_TYPES] = BIT(0);
+    expect("a10", "number", m->claim(row, RC_WORDS, claim, RC_CLAIM_WORDS).number, 9);
+    expect("a10", "rule", m->claim(row, RC_WORDS, claim, RC_CLAIM_WORDS).rule, 2);
+}
+
+/* "Readings that go wrong". */
+static void readings(void)
+{
+    role_3_and_file(7, 9);
+    role_at(row, 3)[RC_ROLE_PROCESS_EXECUTE] = 5;
+    role_at(row, 7)[RC_ROLE_PROCESS_EXECUTE] = 6;
+    expect("readings", "number", call(RC_CALL_EXECUTE, 1, 0, 0, 0), 0);
+    expect("readings", "role", p0[RC_PROCESS_ROLE], 7);
+    expect("readings", "type, from the role before", p0[RC_PROCESS_TYPE], 5);
+    add_right(RC_GROUP_PROCESS, 7, 5, RC_RIGHT_CHANGE_OWNER);
+    expect("readings", "number", call(RC_CALL_CHANGE_OWNER, 2, 0, 0, 0), 0);
+    expect("readings", "role after the owner change", p0[RC_PROCESS_ROLE], 9);
+
+    fresh();
+    put_file(1, RC_DIR, 0, RC_INHERIT_PARENT, 9);
+    put_file(2, RC_DIR, 1, 7, RC_INHERIT_PARENT);
+    put_file(3, RC_FILE, 2, RC_INHERIT_PARENT, RC_INHERIT_PARENT);
+    expect("readings", "forced, past an initial role", m->forced(row, RC_WORDS, 3).value, 9);
+    expect("readings", "parents climbed", m->forced(row, RC_WORDS, 3).climbed, 2);
+    expect("readings", "initial", m->initial(row, RC_WORDS, 3).value, 7);
+    expect("readings", "parents climbed", m->initial(row, RC_WORDS, 3).climbed, 1);
+
+    /* A family of role 1 alone, which can start types 2; role 5, outside, creates such files below directory 1. */
+    fresh();
+    p0[RC_PROCESS_ROLE] = 1;
+    add_right(RC_GROUP_FILESYSTEM, 1, 2, RC_RIGHT_EXECUTE);
+    put_file(1, RC_DIR, 0, RC_INHERIT_PARENT, 9);
+    uint32_t claim[RC_CLAIM_WORDS] = {0, 3, BIT(1), BIT(0), BIT(0), BIT(0)};
+    expect("outsider", "number", m->claim(row, RC_WORDS, claim, RC_CLAIM_WORDS).number, 0);
+    role_at(row, 5)[RC_ROLE_FILE_CREATE] = 2;
+    add_right(RC_GROUP_FILESYSTEM, 5, 0, RC_RIGHT_CREATE);
+    expect("outsider", "rule", m->claim(row, RC_WORDS, claim, RC_CLAIM_WORDS).rule, 6);
+    claim[RC_CLAIM_FILE_TYPES] = claim[RC_CLAIM_FILE_TYPES + 1] = BIT(0) | BIT(2);
+    expect("outsider", "rule", m->claim(row, RC_WORDS, claim, RC_CLAIM_WORDS).rule, 7);
+}
+
+/* "Run only". */
+static void until_full(void)
+{
+    fresh();
+    call(RC_CALL_ADD_RIGHT, RC_GROUP_PROCESS, 0, 0, RC_RIGHT_CLONE);
+    for (uint32_t n = 1; n < RC_PROCESSES; n++)
+        expect("full", "place of a clone", m->call(row, RC_WORDS, RC_CALL_CLONE, 0, 0, 0, 0, 0).place, n);
+    expect("full", "clone", call(RC_CALL_CLONE, 0, 0, 0, 0), 8);
+    expect("full", "exit", m->call(row, RC_WORDS, RC_CALL_EXIT, 17, 0, 0, 0, 0).number, 0);
+    expect("full", "place of a clone", m->call(row, RC_WORDS, RC_CALL_CLONE, 0, 0, 0, 0, 0).place, 17);
+
+    call(RC_CALL_ADD_RIGHT, RC_GROUP_FILESYSTEM, 0, 0, RC_RIGHT_CREATE);
+    for (uint32_t n = 1; n < RC_FILES; n++) { /* a chain of 15, then all below the root, but the last below place 17 */
+        uint32_t parent = n <= 15 ? n - 1 : n == 255 ? 17 : 0, kind = n % 2 || n <= 15 ? RC_DIR : RC_FILE;
+        struct rc_answer made = m->call(row, RC_WORDS, RC_CALL_CREATE, 0, kind, parent, 0, 0);
+        expect("full", "creation", made.number, 0);
+        expect("full", "place of a creation", made.place, n);
+        if (n == 15)
+            expect("full", "creation at depth 16", call(RC_CALL_CREATE, RC_FILE, 15, 0, 0), 7);
+    }
+    expect("full", "depth", file_at(row, 15)[RC_FILE_DEPTH], 15);
+    expect("full", "creation", call(RC_CALL_CREATE, RC_FILE, 0, 0, 0), 8);
+    expect("full", "creation at depth 16", call(RC_CALL_CREATE, RC_FILE, 15, 0, 0), 7);
+
+    call(RC_CALL_ADD_RIGHT, RC_GROUP_FILESYSTEM, 0, 0, RC_RIGHT_DELETE);
+    expect("full", "deletion of a DIR with one child", call(RC_CALL_DELETE, 17, 0, 0, 0), 6);
+    expect("full", "deletion of the child", call(RC_CALL_DELETE, 255, 0, 0, 0), 0);
+    expect("full", "deletion of the DIR", call(RC_CALL_DELETE, 17, 0, 0, 0), 0);
+    expect("full", "place of a creation", m->call(row, RC_WORDS, RC_CALL_CREATE, 0, RC_FILE, 0, 0, 0).place, 17);
+    expect("full", "deletion of the root", call(RC_CALL_DELETE, 0, 0, 0, 0), 6);
+}
+
+bool marked_examples(void)
+{
+    good = true;
+    for (size_t i = 0; i < sizeof monitors / sizeof monitors[0]; i++) {
+        m = &monitors[i];
+        a1_to_a2();
+        a3_to_a5();
+        a6_to_a7();
+        a8_to_a10();
+        readings();
+        until_full();
+    }
+    return good;
+}

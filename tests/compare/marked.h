@@ -1,0 +1,10 @@
+/* The marked examples of the scope document by hand, on the library and on the plain version. */
+#ifndef COMPARE_MARKED_H
+#define COMPARE_MARKED_H
+
+#include <stdbool.h>
+
+/* True if all come out as the document says; prints those that do not. */
+bool marked_examples(void);
+
+#endif
