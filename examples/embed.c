@@ -1,5 +1,6 @@
-/* The monitor in a C program: a process is started for a user, a claim about it is checked, and a careless right breaks
-   that claim. `make example` at the top of the repository builds and runs it; where the library is installed:
+/* The monitor in a C program: a process is started for a user, a directory gives the programs in it a role, a claim about
+   the process is checked, and a careless right breaks that claim. `make example` at the top of the repository builds and
+   runs it; where the library is installed:
 
    cc examples/embed.c $(pkg-config --cflags --libs rcmonitor) -o embed && ./embed */
 #include <inttypes.h>
@@ -24,6 +25,14 @@ static struct rc_answer ask(uint32_t caller, uint32_t kind, uint32_t a, uint32_t
         printf(", place %" PRIu32, answer.place);
     printf("\n");
     return answer;
+}
+
+/* Which role a program forces on who runs it, and which place gave it that role. */
+static void tell_forced(uint32_t program)
+{
+    struct rc_found found = rc_effective_forced(tables, RC_WORDS, program);
+    printf("place %" PRIu32 " forces role %" PRIu32 ", from place %" PRIu32 ", parents climbed %" PRIu32 "\n", program,
+           found.value, found.place, found.climbed);
 }
 
 /* The create types of the roles that may create below a type of the set, as C6 asks. */
@@ -76,6 +85,12 @@ int main(void)
     ask(0, RC_CALL_SET_USER_ROLE, USER, ROLE, 0, 0);
     uint32_t child = ask(0, RC_CALL_CLONE, 0, 0, 0, 0).place;
     ask(child, RC_CALL_CHANGE_OWNER, USER, 0, 0, 0);
+
+    ask(0, RC_CALL_ADD_RIGHT, RC_GROUP_FILESYSTEM, 0, 0, RC_RIGHT_CREATE);
+    uint32_t programs = ask(0, RC_CALL_CREATE, RC_DIR, 0, 0, 0).place;
+    uint32_t program = ask(0, RC_CALL_CREATE, RC_FILE, programs, 0, 0).place;
+    ask(0, RC_CALL_SET_FORCED, programs, ROLE, 0, 0);
+    tell_forced(program);
 
     struct rc_verdict before = check(child);
     ask(0, RC_CALL_ADD_RIGHT, RC_GROUP_FILESYSTEM, ROLE, PROTECTED, RC_RIGHT_WRITE);

@@ -192,6 +192,7 @@ struct rc_found {
     uint32_t number;  /* 0, 1, 2 or 4; other than 0, the rest is 0 */
     uint32_t value;   /* the effective value, never RC_INHERIT_PARENT */
     uint32_t climbed; /* how many parents were climbed, 0 to 15 */
+    uint32_t place;   /* where the climb ended: the file whose own value this is, or the root, place 0 */
 };
 
 struct rc_verdict {
@@ -209,7 +210,8 @@ struct rc_answer rc_fresh(uint32_t *tables, size_t words);
 /* Tells whether the tables are well formed. Fresh tables are, and every call keeps them so. */
 bool rc_well_formed(const uint32_t *tables, size_t words);
 
-/* The effective type of a file or directory, and how many parents were climbed to find it. */
+/* The effective type of a file or directory, how many parents were climbed to find it, and where it was found. The
+   three values of one file may come from three places. */
 struct rc_found rc_effective_type(const uint32_t *tables, size_t words, uint32_t file);
 
 /* The effective initial value of a file or directory: a role or RC_USE_FORCED_ROLE. */

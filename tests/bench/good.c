@@ -269,21 +269,21 @@ struct rc_found good_climb_type(const uint32_t *tables, uint32_t file)
 {
     const struct tables *t = (const struct tables *)tables;
     if (file >= RC_FILES)
-        return (struct rc_found){RC_OUT_OF_RANGE, 0, 0};
+        return (struct rc_found){.number = RC_OUT_OF_RANGE};
     if (t->file[file].kind == RC_FREE)
-        return (struct rc_found){RC_NO_SUCH_PLACE, 0, 0};
+        return (struct rc_found){.number = RC_NO_SUCH_PLACE};
     uint32_t place = file;
     while (t->file[place].type == RC_INHERIT_PARENT && place != ROOT)
         place = t->file[place].parent;
     uint32_t type = t->file[place].type;
     return (struct rc_found){RC_GRANTED, type == RC_INHERIT_PARENT ? 0 : type,
-                             t->file[file].depth - t->file[place].depth};
+                             t->file[file].depth - t->file[place].depth, place};
 }
 
 struct rc_found good_effective_type(const uint32_t *tables, size_t words, uint32_t file)
 {
     if (!good_well_formed(tables, words))
-        return (struct rc_found){RC_ILL_FORMED, 0, 0};
+        return (struct rc_found){.number = RC_ILL_FORMED};
     return good_climb_type(tables, file);
 }
 

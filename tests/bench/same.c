@@ -39,7 +39,8 @@ static bool same_calls(uint32_t n)
 static bool same_climb(uint32_t file)
 {
     struct rc_found plain = plain_effective_type(row, RC_WORDS, file), good = good_effective_type(row, RC_WORDS, file);
-    return plain.number == good.number && plain.value == good.value && plain.climbed == good.climbed;
+    return plain.number == good.number && plain.value == good.value && plain.climbed == good.climbed &&
+           plain.place == good.place;
 }
 
 static bool same_verdict(void)

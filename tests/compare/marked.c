@@ -134,6 +134,7 @@ static void a8_to_a10(void)
         put_file(depth, RC_DIR, depth - 1, RC_INHERIT_PARENT, RC_INHERIT_PARENT);
     expect("a8", "type", m->type(row, RC_WORDS, 15).value, 0);
     expect("a8", "climbed", m->type(row, RC_WORDS, 15).climbed, 15);
+    expect("a8", "place", m->type(row, RC_WORDS, 15).place, 0);
 
     fresh();
     expect("a9", "number", call(RC_CALL_EXIT, 0, 0, 0, 0), 6);
@@ -165,8 +166,14 @@ static void readings(void)
     put_file(3, RC_FILE, 2, RC_INHERIT_PARENT, RC_INHERIT_PARENT);
     expect("readings", "forced, past an initial role", m->forced(row, RC_WORDS, 3).value, 9);
     expect("readings", "parents climbed", m->forced(row, RC_WORDS, 3).climbed, 2);
+    expect("readings", "place", m->forced(row, RC_WORDS, 3).place, 1);
     expect("readings", "initial", m->initial(row, RC_WORDS, 3).value, 7);
     expect("readings", "parents climbed", m->initial(row, RC_WORDS, 3).climbed, 1);
+    expect("readings", "place", m->initial(row, RC_WORDS, 3).place, 2);
+    expect("readings", "place, at the root", m->type(row, RC_WORDS, 3).place, 0);
+    expect("readings", "place, at itself", m->initial(row, RC_WORDS, 2).place, 2);
+    expect("readings", "number, of a free place", m->forced(row, RC_WORDS, 4).number, 4);
+    expect("readings", "place, of a free place", m->forced(row, RC_WORDS, 4).place, 0);
 
     /* A family of role 1 alone, which can start types 2; role 5, outside, creates such files below directory 1. */
     fresh();

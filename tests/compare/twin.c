@@ -55,6 +55,12 @@ static uint64_t hits[LINES][10];
 static uint64_t rule_hits[10];
 static uint64_t climb_hits[RC_DEPTH_MOST + 1];
 
+/* Where climbs end: at the file asked for, at a directory above it, at the root; and files whose three values come from
+   three places. */
+enum { ITSELF, ABOVE, AT_THE_ROOT, THREE_PLACES, ENDS };
+static const char *const end_name[ENDS] = {"at itself", "above", "at the root", "at three places"};
+static uint64_t end_hits[ENDS];
+
 static void hit(int which, uint32_t number)
 {
     if (number > 9) {
@@ -96,6 +102,11 @@ bool twin_report(void)
     for (uint32_t n = 0; n <= RC_DEPTH_MOST; n++) {
         printf(" %" PRIu64, climb_hits[n]);
         complete &= climb_hits[n] != 0;
+    }
+    printf("\nclimbs ended:");
+    for (int end = 0; end < ENDS; end++) {
+        printf(" %s %" PRIu64, end_name[end], end_hits[end]);
+        complete &= end_hits[end] != 0;
     }
     printf("\n%" PRIu64 " calls compared\n", calls);
     return complete;
@@ -212,21 +223,28 @@ bool twin_well_formed(void)
     return p;
 }
 
-static void query(int which, uint32_t file, struct rc_found l, struct rc_found p)
+/* Answers the place. */
+static uint32_t query(int which, uint32_t file, struct rc_found l, struct rc_found p)
 {
-    uint32_t ls[] = {l.number, l.value, l.climbed}, ps[] = {p.number, p.value, p.climbed};
-    compare(line[which].name, &file, 1, ls, ps, 3);
+    uint32_t ls[] = {l.number, l.value, l.climbed, l.place}, ps[] = {p.number, p.value, p.climbed, p.place};
+    compare(line[which].name, &file, 1, ls, ps, 4);
     hit(which, p.number);
-    if (p.number == RC_GRANTED)
+    if (p.number == RC_GRANTED) {
         climb_hits[p.climbed]++;
+        end_hits[p.climbed == 0 ? ITSELF : p.place == 0 ? AT_THE_ROOT : ABOVE]++;
+    }
+    return p.place;
 }
 
 void twin_queries(uint32_t file)
 {
-    query(TYPE, file, rc_effective_type(library.row, lent, file), plain_effective_type(plain.row, lent, file));
-    query(INITIAL, file, rc_effective_initial(library.row, lent, file),
-          plain_effective_initial(plain.row, lent, file));
-    query(FORCED, file, rc_effective_forced(library.row, lent, file), plain_effective_forced(plain.row, lent, file));
+    uint32_t type = query(TYPE, file, rc_effective_type(library.row, lent, file),
+                          plain_effective_type(plain.row, lent, file));
+    uint32_t initial = query(INITIAL, file, rc_effective_initial(library.row, lent, file),
+                             plain_effective_initial(plain.row, lent, file));
+    uint32_t forced = query(FORCED, file, rc_effective_forced(library.row, lent, file),
+                            plain_effective_forced(plain.row, lent, file));
+    end_hits[THREE_PLACES] += type != initial && initial != forced && forced != type;
 }
 
 struct rc_verdict twin_claim(const uint32_t *claim, size_t words)

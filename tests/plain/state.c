@@ -82,11 +82,11 @@ struct rc_answer plain_fresh(uint32_t *tables, size_t words)
 static struct rc_found found(const struct tables *t, uint32_t file, enum inherited which)
 {
     if (file >= RC_FILES)
-        return (struct rc_found){RC_OUT_OF_RANGE, 0, 0};
+        return (struct rc_found){.number = RC_OUT_OF_RANGE};
     if (t->file[file].kind == RC_FREE)
-        return (struct rc_found){RC_NO_SUCH_PLACE, 0, 0};
+        return (struct rc_found){.number = RC_NO_SUCH_PLACE};
     struct climb c = climb(t, file, which);
-    return (struct rc_found){RC_GRANTED, c.value, c.climbed};
+    return (struct rc_found){RC_GRANTED, c.value, c.climbed, c.place};
 }
 
 struct rc_found plain_climb_type(const uint32_t *tables, uint32_t file)
@@ -94,23 +94,24 @@ struct rc_found plain_climb_type(const uint32_t *tables, uint32_t file)
     return found((const struct tables *)tables, file, TYPE);
 }
 
-struct rc_found plain_effective_type(const uint32_t *tables, size_t words, uint32_t file)
+static struct rc_found query(const uint32_t *tables, size_t words, uint32_t file, enum inherited which)
 {
     if (!plain_well_formed(tables, words))
-        return (struct rc_found){RC_ILL_FORMED, 0, 0};
-    return found((const struct tables *)tables, file, TYPE);
+        return (struct rc_found){.number = RC_ILL_FORMED};
+    return found((const struct tables *)tables, file, which);
+}
+
+struct rc_found plain_effective_type(const uint32_t *tables, size_t words, uint32_t file)
+{
+    return query(tables, words, file, TYPE);
 }
 
 struct rc_found plain_effective_initial(const uint32_t *tables, size_t words, uint32_t file)
 {
-    if (!plain_well_formed(tables, words))
-        return (struct rc_found){RC_ILL_FORMED, 0, 0};
-    return found((const struct tables *)tables, file, INITIAL);
+    return query(tables, words, file, INITIAL);
 }
 
 struct rc_found plain_effective_forced(const uint32_t *tables, size_t words, uint32_t file)
 {
-    if (!plain_well_formed(tables, words))
-        return (struct rc_found){RC_ILL_FORMED, 0, 0};
-    return found((const struct tables *)tables, file, FORCED);
+    return query(tables, words, file, FORCED);
 }

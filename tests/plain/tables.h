@@ -90,7 +90,7 @@ static inline bool is_process_forced(uint32_t value)
 enum inherited { TYPE, INITIAL, FORCED };
 
 struct climb {
-    uint32_t value, climbed;
+    uint32_t value, climbed, place;
 };
 
 static inline uint32_t own_value(const struct file *f, enum inherited which)
@@ -109,7 +109,7 @@ static inline struct climb climb(const struct tables *t, uint32_t place, enum in
     }
     if (value == RC_INHERIT_PARENT)
         value = which == TYPE ? 0 : which == INITIAL ? RC_USE_FORCED_ROLE : RC_UP_MIXED;
-    return (struct climb){value, climbed};
+    return (struct climb){value, climbed, place};
 }
 
 static inline uint32_t effective(const struct tables *t, uint32_t place, enum inherited which)

@@ -17,7 +17,8 @@ use Rattle.model.specs.Records.{fileWord}
 use Rattle.model.specs.Effective.{effective, valueAt}
 use Rattle.model.proofs.Decided.{tested}
 use Rattle.effective.specs.Known.{follows, takes}
-use Rattle.effective.proofs.Laws.{climb-plain, climb-up, value-of}
+use Rattle.model.proofs.Effective.{climb-up, effective-own}
+use Rattle.effective.proofs.Laws.{value-of}
 
 module _ (t : List ℕ) (slot o : ℕ) where
   as-parent : (p : ℕ) → p ≡ fileWord t o PARENT → fileWord t o DEPTH < DEPTHS → fileWord t p DEPTH + 1 ≡ fileWord t o DEPTH → fileWord t o slot ≡ INHERIT-PARENT → valueAt t slot o ≡ valueAt t slot p
@@ -27,8 +28,8 @@ module _ (t : List ℕ) (slot o : ℕ) where
       value-of _ _ (climb-up t slot o (fileWord t o DEPTH % DEPTHS) (λ z. omega arith) e) ∙ rw (m, ← parent)
 
   own : (fileWord t o slot ≡ INHERIT-PARENT → ⊥) → fileWord t o slot ≡ valueAt t slot o
-  unfolding valueAt effective
-  own n = sym (value-of _ _ (climb-plain t slot o (fileWord t o DEPTH % DEPTHS) n))
+  unfolding valueAt
+  own n = sym (value-of _ _ (effective-own t slot o n))
 
   pub takes-value : (p above : ℕ) → p ≡ fileWord t o PARENT → (p < o → above ≡ valueAt t slot p) → takes t slot o (follows t o p) above ≡ valueAt t slot o
   unfolding takes follows

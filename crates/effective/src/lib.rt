@@ -1,5 +1,5 @@
-// Effective values (rules 5, 17, 19): one climb for the type, the initial and the forced value of a file, counted for the queries, and
-// the value alone for calls and claims.
+// Effective values (rules 5, 17, 19): one climb for the type, the initial and the forced value of a file, with its count and the place where
+// it ends for the queries, and the value alone for calls and claims.
 use climbing::climb;
 use model::Climbed;
 use model::layout::DEPTH;
@@ -34,8 +34,8 @@ fn root_value(slot: u32) -> u32
     }
 }
 
-// The effective value of word `slot` of file o, and the parents climbed to it. A file has as many parents as its depth says; the remainder
-// keeps the climb short on any row.
+// The effective value of word `slot` of file o, the parents climbed to it, and the place where the climb ended. A file has as many parents as
+// its depth says; the remainder keeps the climb short on any row.
 pub fn effective(t: &[u32], slot: u32, o: u32) -> Climbed
     ensures { λ r. ⌜ r ≡ effectiveOf (now (t .entry)) slot o ⌝ }
 {

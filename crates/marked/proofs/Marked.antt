@@ -83,7 +83,7 @@ claim s q = 0 ∷ 0 ∷ s ∷ q ∷ replicate 256 0
 
 -- what a query and a claim are answered
 pub ofQuery : Found → List ℕ
-ofQuery e = e .number ∷ e .value ∷ e .climbed ∷ []
+ofQuery e = e .number ∷ e .value ∷ e .climbed ∷ e .place ∷ []
 
 pub ofClaim : Verdict → List ℕ
 ofClaim v = v .number ∷ v .rule ∷ []
@@ -109,7 +109,7 @@ pub a1-to-a10 : (
     ∷ (9 ∷ 5 ∷ 9 ∷ [])
     ∷ (4 ∷ 6 ∷ 34 ∷ [])
     ∷ (8 ∷ 5 ∷ 34 ∷ [])
-    ∷ (0 ∷ 0 ∷ 15 ∷ [])
+    ∷ (0 ∷ 0 ∷ 15 ∷ 0 ∷ [])
     ∷ (6 ∷ [])
     ∷ (9 ∷ 1 ∷ [])
     ∷ (9 ∷ 2 ∷ [])
@@ -138,7 +138,8 @@ pub a-forced-value-is-always-copied :
     processAt (after fresh starting) 0 .role ∷ processAt (after fresh (starting ++ handing)) 0 .role ∷ [] ≡ 7 ∷ 9 ∷ []
 a-forced-value-is-always-copied = simp computing (unfold acted fresh starting handing in refl)
 
--- stopping a climb at a parent with a plain initial role when the forced value was asked: file 2 has initial 7 of its parent, forced 9 of the root
+-- stopping a climb at a parent with a plain initial role when the forced value was asked: file 2 has a type 5 of its own, initial 7 of its parent and
+-- forced 9 of the root; place 3 is free
 pub inheriting : List Event
 inheriting =
     administers 0 (Change.AddRight FILESYSTEM 0 0 CREATE)
@@ -146,10 +147,15 @@ inheriting =
     ∷ asks 0 (Call.Create DIR 0)
     ∷ administers 0 (Change.SetInitial 1 7)
     ∷ asks 0 (Call.Create FILE 1)
+    ∷ administers 0 (Change.SetType FILESYSTEM 2 5)
     ∷ []
 
 pub each-value-climbs-by-itself :
-    ofQuery (query (after fresh inheriting) INITIAL 2) ∷ ofQuery (query (after fresh inheriting) FORCED 2) ∷ []
-    ≡ (0 ∷ 7 ∷ 1 ∷ []) ∷ (0 ∷ 9 ∷ 2 ∷ []) ∷ []
+    ofQuery (query (after fresh inheriting) FILE-TYPE 2)
+    ∷ ofQuery (query (after fresh inheriting) INITIAL 2)
+    ∷ ofQuery (query (after fresh inheriting) FORCED 2)
+    ∷ ofQuery (query (after fresh inheriting) FORCED 3)
+    ∷ []
+    ≡ (0 ∷ 5 ∷ 0 ∷ 2 ∷ []) ∷ (0 ∷ 7 ∷ 1 ∷ 1 ∷ []) ∷ (0 ∷ 9 ∷ 2 ∷ 0 ∷ []) ∷ (4 ∷ 0 ∷ 0 ∷ 0 ∷ []) ∷ []
 unfolding query queryNo
 each-value-climbs-by-itself = simp computing (unfold acted fresh inheriting ofQuery in refl)

@@ -1,5 +1,5 @@
--- The queries ("Effective values"): the effective value of a file's type, initial or forced word and the parents climbed to it. They need no
--- caller and no right, and refuse only with 1, 2 or 4.
+-- The queries ("Effective values", W-201): the effective value of a file's type, initial or forced word, the parents climbed to it and the place
+-- where the climb ended. They need no caller and no right, and refuse only with 1, 2 or 4.
 -- Assumes nothing.
 use Prim.Native.Nat.{ℕ, zero, suc}
 use mathlib.Core.List.{List}
@@ -17,8 +17,8 @@ queryNo t o = 1 unless wellFormed t ▹ 2 unless ltb o FILES ▹ 4 unless occupi
 
 -- a refusal answers its number and zeros
 abbrev pub foundBy : ℕ → Climbed → Found
-foundBy zero e = record { number = 0; value = e .value; climbed = e .climbed }
-foundBy (suc n) e = record { number = suc n; value = 0; climbed = 0 }
+foundBy zero e = record { number = 0; value = e .value; climbed = e .climbed; place = e .place }
+foundBy (suc n) e = record { number = suc n; value = 0; climbed = 0; place = 0 }
 
 unfoldable pub query : List ℕ → ℕ → ℕ → Found
 query t slot o = foundBy (queryNo t o) (effective t slot o)

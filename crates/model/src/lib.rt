@@ -137,10 +137,11 @@ pub enum Change {
     },
 }
 
-// An effective value, and the number of parents climbed to it.
+// An effective value, the number of parents climbed to it, and the place where the climb ended.
 pub struct Climbed {
     pub value: u32,
     pub climbed: u32,
+    pub place: u32,
 }
 
 // What a call is answered: 0 and the place that a grant gives, or the number of the refusal and 0.
@@ -150,12 +151,13 @@ pub struct Answer {
     pub place: u32,
 }
 
-// What a query is answered: 0, the value and the parents climbed, or the number of the refusal and zeros.
+// What a query is answered: 0, the value, the parents climbed and the place where the climb ended, or the number of the refusal and zeros.
 #[repr(C)]
 pub struct Found {
     pub number: u32,
     pub value: u32,
     pub climbed: u32,
+    pub place: u32,
 }
 
 // What a claim is answered: 0 and 0, 9 and the first rule broken, or another number and 0.

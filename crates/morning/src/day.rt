@@ -66,15 +66,26 @@ fn start_valve_driver(t: &mut [u32]) {
     );
 }
 
-// Where the role of the planner's script comes from.
-fn whence(t: &[u32]) {
-    scene(b"Anyone may ask which role the planning script forces on who runs it.");
-    let found = query_forced(t, PLANNING_SCRIPT);
-    say(b"  It is ");
+// Which role a program forces on who runs it, and the place that gave it that role.
+fn whence(t: &[u32], program: u32) {
+    let found = query_forced(t, program);
+    say(b"  ");
+    words::file(program);
+    say(b": ");
     words::role(found.value);
-    say(b", found ");
+    say(b", from ");
+    words::file(found.place);
+    say(b", parents climbed ");
     number(found.climbed);
-    say(b" directory up: at the directory of planning programs.\n");
+    say(b"\n");
+}
+
+fn fitter(t: &[u32]) {
+    scene(
+        b"Anyone may ask which role a program forces on who runs it, and which place gave it that role.",
+    );
+    whence(t, PLANNING_SCRIPT);
+    whence(t, SCHEDULER_PROGRAM);
 }
 
 fn morning(t: &mut [u32]) {
@@ -137,7 +148,7 @@ pub(crate) fn run(t: &mut [u32]) {
     start_planner(t);
     start_scheduler(t);
     start_valve_driver(t);
-    whence(t);
+    fitter(t);
     morning(t);
     right_way(t);
 }

@@ -2,10 +2,16 @@
 use crate::names::ADMINISTRATOR;
 use crate::names::BOX;
 use crate::names::KILOPASCALS;
+use crate::names::KILOPASCALS_LIST;
+use crate::names::LISTS;
 use crate::names::METRES;
+use crate::names::METRES_LIST;
 use crate::names::PLANNER;
 use crate::names::PLANNING_PROGRAMS;
 use crate::names::PLANNING_SCRIPT;
+use crate::names::PLANS;
+use crate::names::PROGRAMS;
+use crate::names::ROOT;
 use crate::names::SCHEDULER;
 use crate::names::SCHEDULER_PROGRAM;
 use crate::names::SERVICE_PROGRAMS;
@@ -47,8 +53,14 @@ pub(crate) fn file(n: u32) {
     say(b"place ");
     number(n);
     match n {
+        ROOT => say(b" (the root)"),
+        PROGRAMS => say(b" (the directory of programs)"),
+        PLANS => say(b" (the directory of planning programs)"),
         PLANNING_SCRIPT => say(b" (the planner's script)"),
         SCHEDULER_PROGRAM => say(b" (the scheduler's program)"),
+        LISTS => say(b" (the directory of lists)"),
+        METRES_LIST => say(b" (the list in metres)"),
+        KILOPASCALS_LIST => say(b" (the list in kilopascals)"),
         _ => {}
     }
 }

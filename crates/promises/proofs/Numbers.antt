@@ -128,13 +128,13 @@ exit-answers-0-1-2-3-or-6 t c =
 
 -- ---- queries
 
-found-number : (n : ℕ) (e : Climbed) → foundBy n e .number ≡ n
+pub found-number : (n : ℕ) (e : Climbed) → foundBy n e .number ≡ n
 found-number zero e = refl
 found-number (suc n) e = refl
 
-found-zeros : (n : ℕ) (e : Climbed) → foundBy n e .number ≢ 0 → (foundBy n e .value ≡ 0) × (foundBy n e .climbed ≡ 0)
+found-zeros : (n : ℕ) (e : Climbed) → foundBy n e .number ≢ 0 → (foundBy n e .value ≡ 0) × (foundBy n e .climbed ≡ 0) × (foundBy n e .place ≡ 0)
 found-zeros zero e h = absurd (h refl)
-found-zeros (suc n) e h = (refl, refl)
+found-zeros (suc n) e h = (refl, refl, refl)
 
 query-first : (t : List ℕ) (slot o : ℕ) → query t slot o .number ≡ firstOf (queryTests t o)
 unfolding query queryNo

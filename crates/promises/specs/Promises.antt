@@ -2,7 +2,7 @@
 -- What a function of the library answers is by its contract what `step`, `query`, `check`, `buildFresh` or `wellFormed` says, so that what holds of
 -- the definition here holds of the box.
 -- Assumes nothing.
-use Prim.Native.Nat.{_+_, _<_, _≤_, ℕ}
+use Prim.Native.Nat.{_+_, _<_, _≤_, suc, zero, ℕ}
 use mathlib.Core.Bool.{Bool, _||_, false, true}
 use mathlib.Core.List.{List, [], _∷_}
 use mathlib.Core.Logic.{_↔_, _≢_}
@@ -22,7 +22,7 @@ use Rattle.model.specs.WellFormed.{wellFormed}
 use Rattle.model.specs.Policy.{SamePolicy}
 use Rattle.model.specs.Outcome.{Outcome, outcome, granting, refusing}
 use Rattle.model.specs.Fresh.{fresh, buildFresh}
-use Rattle.model.specs.Effective.{effective, valueAt}
+use Rattle.model.specs.Effective.{effective, rootValue, valueAt}
 use Rattle.model.specs.Queries.{query}
 use Rattle.model.specs.Step.{act, step}
 use Rattle.model.specs.Claims.{check}
@@ -50,7 +50,7 @@ abbrev pub A-query-answers-0-1-2-or-4 : Type 0
 A-query-answers-0-1-2-or-4 =
     (t : List ℕ) (slot o : ℕ)
     → (isOneOf (query t slot o .number) (0 ∷ 1 ∷ 2 ∷ 4 ∷ []) ≡ true)
-    × (query t slot o .number ≢ 0 → (query t slot o .value ≡ 0) × (query t slot o .climbed ≡ 0))
+    × (query t slot o .number ≢ 0 → (query t slot o .value ≡ 0) × (query t slot o .climbed ≡ 0) × (query t slot o .place ≡ 0))
 
 -- A claim is answered 0, 1, 2, 3 or 9; with 9 comes the number of a rule, 1 to 9, and with any other number 0.
 abbrev pub A-claim-answers-0-1-2-3-or-9 : Type 0
@@ -200,6 +200,34 @@ The-count-is-the-number-of-parents-climbed =
 abbrev pub At-most-15-parents-are-climbed : Type 0
 At-most-15-parents-are-climbed =
     (t : List ℕ) (slot o : ℕ) → (effective t slot o .climbed ≤ DEEPEST) × (query t slot o .climbed ≤ DEEPEST)
+
+-- the file that lies n parents above file o
+abbrev pub nthParent : List ℕ → ℕ → ℕ → ℕ
+nthParent t zero o = o
+nthParent t (suc n) o = nthParent t n (fileWord t o PARENT)
+
+-- the value that file o has in the word `slot` was found `climbed` parents above it, at `place`: every file that was passed inherits; the value is the
+-- place's own, and where the place inherits too, it is the root, and the value is the root's default
+abbrev pub CameFrom : List ℕ → ℕ → ℕ → ℕ → ℕ → ℕ → Type 0
+CameFrom t slot o value climbed place =
+    (place ≡ nthParent t climbed o)
+    × ((n : ℕ) → n < climbed → fileWord t (nthParent t n o) slot ≡ INHERIT-PARENT)
+    × (fileWord t place slot ≢ INHERIT-PARENT → value ≡ fileWord t place slot)
+    × (fileWord t place slot ≡ INHERIT-PARENT → (place ≡ ROOT) × (value ≡ rootValue slot))
+
+-- W-201: a query that is answered answers the place that its value came from.
+abbrev pub A-query-answers-the-place-its-value-came-from : Type 0
+A-query-answers-the-place-its-value-came-from =
+    (t : List ℕ) (slot o : ℕ)
+    → query t slot o .number ≡ 0
+    → CameFrom t slot o (query t slot o .value) (query t slot o .climbed) (query t slot o .place)
+
+-- Asked again at that place, it answers the same value and place, and climbs no parent.
+abbrev pub Asked-at-that-place-a-query-answers-the-same : Type 0
+Asked-at-that-place-a-query-answers-the-same =
+    (t : List ℕ) (slot o : ℕ)
+    → query t slot o .number ≡ 0
+    → query t slot (query t slot o .place) ≡ record { number = 0; value = query t slot o .value; climbed = 0; place = query t slot o .place }
 
 -- ---- there is one right answer
 

@@ -33,6 +33,7 @@ fn query(t: &[u32], slot: u32, o: u32) -> Found
             number,
             value: 0,
             climbed: 0,
+            place: 0,
         };
     }
     let up = effective(t, slot, o);
@@ -40,10 +41,11 @@ fn query(t: &[u32], slot: u32, o: u32) -> Found
         number: 0,
         value: up.value,
         climbed: up.climbed,
+        place: up.place,
     }
 }
 
-// The effective type of a file or directory, and the parents climbed to it (rule 5).
+// The effective type of a file or directory, the parents climbed to it, and the place where the climb ended (rule 5).
 pub fn query_type(t: &[u32], o: u32) -> Found
     ensures { λ r. ⌜ r ≡ queryType (now (t .entry)) o ⌝ }
 {

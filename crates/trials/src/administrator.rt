@@ -2,6 +2,7 @@
 use model::Answer;
 use model::Call;
 use model::Change;
+use model::numbers::FILESYSTEM;
 use monitor::step;
 
 fn administer(t: &mut [u32], change: Change) -> Answer {
@@ -44,6 +45,18 @@ pub(crate) fn set_initial(t: &mut [u32], file: u32, value: u32) -> Answer {
 // Sets a file's forced value.
 pub(crate) fn set_forced(t: &mut [u32], file: u32, value: u32) -> Answer {
     administer(t, Change::SetForced { file, value })
+}
+
+// Sets the type of a file or a directory.
+pub(crate) fn set_file_type(t: &mut [u32], object: u32, value: u32) -> Answer {
+    administer(
+        t,
+        Change::SetType {
+            group: FILESYSTEM,
+            object,
+            value,
+        },
+    )
 }
 
 // Creates a file or a directory.

@@ -1,4 +1,5 @@
-// What the scope document asks to be run: the marked examples, every table filled to its last place, and each number once.
+// What the scope document asks to be run: the marked examples, every table filled to its last place, and each number once; and where effective
+// values come from.
 // A line tells a trial and what it came to; every group of trials begins with fresh tables.
 use model::layout::ROW_LENGTH;
 
@@ -8,11 +9,13 @@ mod full;
 mod marked;
 mod numbers;
 mod tell;
+mod whence;
 
 fn main() {
     let mut t = [0u32; ROW_LENGTH];
     marked::run(&mut t);
     claim::example(&mut t);
+    whence::run(&mut t);
     full::run(&mut t);
     numbers::run(&mut t);
     claim::numbers(&mut t);

@@ -31,7 +31,8 @@ pub(crate) fn placed(text: &[u8], a: Answer) {
 pub(crate) fn climbed(text: &[u8], found: Found) {
     part(text, found.number);
     part(b", value ", found.value);
-    line(b", parents climbed ", found.climbed);
+    part(b", parents climbed ", found.climbed);
+    line(b", place ", found.place);
 }
 
 // A trial that comes to what a process then is.

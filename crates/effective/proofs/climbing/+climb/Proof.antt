@@ -5,7 +5,8 @@ use native.Mathlib.Omega.{arith}
 use borrow.Author.Needs.{needs}
 use borrow.Fn.Kinds.{In}
 use borrow.Fn.PlainCycle.{Measures, is, falls, and}
-use Rattle.effective.proofs.Laws.{climb-plain, climb-top, up-of, bound-of}
+use Rattle.model.proofs.Effective.{climb-own, climb-root}
+use Rattle.effective.proofs.Laws.{up-of, bound-of}
 use Rattle.effective.proofs.climbing.+climb.{statement}
 use Rattle.effective.proofs.climbing.+climb.Tie.{close}
 use Rattle.effective.proofs.climbing.climb.Reads as climb
@@ -34,7 +35,7 @@ module _ (t : ℕ) where
   returns c =
       let v = c .before .file-word in
       let a = c .before .before .before .args in
-      rw (climb-plain (a .t .now) (a .slot) (a .o) (a .depth) (λ e. c .if1 .taken (v .ensures ∙ e))) (cc)
+      rw (climb-own (a .t .now) (a .slot) (a .o) (a .depth) (λ e. c .if1 .taken (v .ensures ∙ e))) (cc)
 
   root-value-requires : climb-lts.Need-root-value-requires callees climb-at climb.Post
   root-value-requires c κs = search needs
@@ -43,13 +44,13 @@ module _ (t : ℕ) where
   returns-2 c =
       let v = c .before .before .before .file-word in
       let a = c .before .before .before .before .before .args in
-      rw (c .before .if2 .taken, climb-top (a .t .now) (a .slot) (a .o) (sym (v .ensures) ∙ c .before .before .if1 .left), ← c .root-value .ensures)
-
-  sub-climb : climb-lts.Need-sub-climb callees climb-at climb.Post
-  sub-climb c = search needs
+      rw (c .before .if2 .taken, climb-root (a .t .now) (a .slot) (a .o) (sym (v .ensures) ∙ c .before .before .if1 .left), ← c .root-value .ensures)
 
   file-word-requires-2 : climb-lts.Need-file-word-requires-2 callees climb-at climb.Post
   file-word-requires-2 c κs = search needs
+
+  sub-climb : climb-lts.Need-sub-climb callees climb-at climb.Post
+  sub-climb c = search needs
 
   climb-requires : climb-lts.Need-climb-requires callees climb-at climb.Post
   climb-requires c κs =
@@ -57,8 +58,8 @@ module _ (t : ℕ) where
       let m : s .args .depth ≡ t = s .pre .0 in
       (omega arith, s .pre .1)
 
-  add-t9 : climb-lts.Need-add-t9 callees climb-at climb.Post
-  add-t9 c = omega (arith, bound-of _ _ _ _ _ (c .before .climb .ensures))
+  add-t10 : climb-lts.Need-add-t10 callees climb-at climb.Post
+  add-t10 c = omega (arith, bound-of _ _ _ _ _ (c .before .climb .ensures))
 
   returns-3 : climb-lts.Need-returns-3 callees climb-at climb.Post
   returns-3 c =
@@ -74,8 +75,8 @@ pub +climb-spec : {M : Type 1} → statement M
     (returns t)
     (root-value-requires t)
     (returns-2 t)
-    (sub-climb t)
     (file-word-requires-2 t)
+    (sub-climb t)
     (climb-requires t)
-    (add-t9 t)
+    (add-t10 t)
     (returns-3 t)

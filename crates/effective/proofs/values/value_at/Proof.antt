@@ -12,7 +12,8 @@ use Rattle.sets.proofs.Below.{left, right}
 use Rattle.model.specs.Numbers.{INHERIT-PARENT}
 use Rattle.model.specs.Records.{fileWord}
 use Rattle.model.specs.Effective.{climb, effective, valueAt}
-use Rattle.effective.proofs.Laws.{climb-plain, climb-top, climb-up, value-of}
+use Rattle.model.proofs.Effective.{climb-own, climb-root, climb-up}
+use Rattle.effective.proofs.Laws.{value-of}
 use Rattle.effective.proofs.values.value_at.Tie as tie
 
 -- the loop goes on: the value is inherit parent, and there is a parent
@@ -65,12 +66,12 @@ returns : tie.Need-returns Inv-loop μ-loop
 returns c =
     let l = c .before .before .before .loop in
     let z = ended (l .value) (l .depth) (c .before .before .loop-test .left) (c .before .if1 .taken) in
-    c .root-value .ensures ∙ sym (value-of _ _ (climb-top _ _ (l .at) (sym (l .inv .0) ∙ c .before .if1 .taken))) ∙ rw z at (l .inv .1)
+    c .root-value .ensures ∙ sym (value-of _ _ (climb-root _ _ (l .at) (sym (l .inv .0) ∙ c .before .if1 .taken))) ∙ rw z at (l .inv .1)
 
 returns-2 : tie.Need-returns-2 Inv-loop μ-loop
 returns-2 c =
     let l = c .before .before .loop in
-    l .inv .0 ∙ sym (value-of _ _ (climb-plain _ _ (l .at) (l .depth) (λ e. c .if1 .left (l .inv .0 ∙ e)))) ∙ l .inv .1
+    l .inv .0 ∙ sym (value-of _ _ (climb-own _ _ (l .at) (l .depth) (λ e. c .if1 .left (l .inv .0 ∙ e)))) ∙ l .inv .1
 
 pub value-at-spec : {M : Type 1} → statement M
 value-at-spec =
