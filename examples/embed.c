@@ -1,6 +1,6 @@
 /* The monitor in a C program: a process is started for a user, a directory gives the programs in it a role, a claim about
-   the process is checked, and a careless right breaks that claim. `make example` at the top of the repository builds and
-   runs it; where the library is installed:
+   the process is checked, a careless right breaks that claim, and metres still do not enter a list in kilopascals.
+   `make example` at the top of the repository builds and runs it; where the library is installed:
 
    cc examples/embed.c $(pkg-config --cflags --libs rcmonitor) -o embed && ./embed */
 #include <inttypes.h>
@@ -9,7 +9,8 @@
 
 #define USER 1u
 #define ROLE 1u
-#define PROTECTED 5u
+#define METRES 4u /* the type of setpoint lists in metres of head, and of those in kilopascals */
+#define KILOPASCALS 5u
 
 static uint32_t tables[RC_WORDS];
 
@@ -62,10 +63,10 @@ static uint32_t types_of(uint32_t file)
     return types;
 }
 
-/* The claim that a process stays in ROLE and process type 0, and never changes an object of type PROTECTED. */
+/* The claim that a process stays in ROLE and process type 0, and never changes a list in kilopascals. */
 static struct rc_verdict check(uint32_t process)
 {
-    uint32_t claim[RC_CLAIM_WORDS] = {process, PROTECTED, 1u << ROLE, 1u << 0};
+    uint32_t claim[RC_CLAIM_WORDS] = {process, KILOPASCALS, 1u << ROLE, 1u << 0};
     for (uint32_t file = 0; file < RC_FILES; file++)
         claim[RC_CLAIM_FILE_TYPES + file] = types_of(file);
     struct rc_verdict verdict = rc_check_claim(tables, RC_WORDS, claim, RC_CLAIM_WORDS);
@@ -73,6 +74,28 @@ static struct rc_verdict check(uint32_t process)
     if (verdict.rule)
         printf("  C%" PRIu32 ": %s\n", verdict.rule, rc_rule_text(verdict.rule));
     return verdict;
+}
+
+/* A new setpoint list of this type. */
+static uint32_t new_list(uint32_t type)
+{
+    uint32_t list = ask(0, RC_CALL_CREATE, RC_FILE, 0, 0, 0).place;
+    ask(0, RC_CALL_SET_TYPE, RC_GROUP_FILESYSTEM, list, type, 0);
+    return list;
+}
+
+/* Metres of head, entered into a list. */
+static struct rc_answer enter(uint32_t process, uint32_t list, uint32_t millimetres)
+{
+    uint32_t pascals = 0;
+    struct rc_answer answer = rc_setpoint(tables, RC_WORDS, process, list, RC_UNIT_METRES, millimetres, METRES,
+                                          KILOPASCALS, &pascals, 1);
+    printf("process %" PRIu32 ", %" PRIu32 " mm of head to place %" PRIu32 ": %s", process, millimetres, list,
+           rc_number_text(answer.number));
+    if (answer.number == RC_GRANTED)
+        printf(", %" PRIu32 " Pa", pascals);
+    printf("\n");
+    return answer;
 }
 
 int main(void)
@@ -92,8 +115,12 @@ int main(void)
     ask(0, RC_CALL_SET_FORCED, programs, ROLE, 0, 0);
     tell_forced(program);
 
+    uint32_t in_metres = new_list(METRES), in_kilopascals = new_list(KILOPASCALS);
+    ask(0, RC_CALL_ADD_RIGHT, RC_GROUP_FILESYSTEM, ROLE, METRES, RC_RIGHT_WRITE);
     struct rc_verdict before = check(child);
-    ask(0, RC_CALL_ADD_RIGHT, RC_GROUP_FILESYSTEM, ROLE, PROTECTED, RC_RIGHT_WRITE);
+    ask(0, RC_CALL_ADD_RIGHT, RC_GROUP_FILESYSTEM, ROLE, KILOPASCALS, RC_RIGHT_WRITE);
     struct rc_verdict after = check(child);
-    return !(before.number == RC_GRANTED && after.number == RC_CLAIM_BROKEN && rc_well_formed(tables, RC_WORDS));
+    struct rc_answer right = enter(child, in_metres, 45000), wrong = enter(child, in_kilopascals, 45000);
+    return !(before.number == RC_GRANTED && after.number == RC_CLAIM_BROKEN && right.number == RC_GRANTED &&
+             wrong.number == RC_NO_SUCH_PLACE && rc_well_formed(tables, RC_WORDS));
 }

@@ -1,4 +1,4 @@
-/* The access-control monitor, as C sees it.
+/* The access-control monitor, and setpoint lists above it, as C sees them.
 
    All tables lie in one row of RC_WORDS words. The row is yours: you keep it, and you lend it to each call, as a pointer
    and the number of words there. No function allocates memory, keeps a pointer, or touches anything but what it is lent.
@@ -6,7 +6,8 @@
    nothing. What you see to is that the words are really there.
 
    At the same time: the library has no state of its own and takes no lock, so calls on different rows never meet. On one
-   row, any number of the functions that take it as const may run together; rc_call and rc_fresh each want it alone.
+   row, any number of the functions that take it as const may run together; rc_call and rc_fresh each want it alone, and
+   rc_setpoint the entries that it is lent.
 
    The library is an archive, librcmonitor.a, for programs on x86-64 (System V calling convention); its code may also go
    into a shared object. From outside it needs memset and memcpy. At the top of the repository `make lib` proves and
@@ -109,9 +110,9 @@
 /* ---- The answer to a call ---- the lowest number that applies */
 #define RC_GRANTED 0u
 #define RC_ILL_FORMED 1u    /* the tables are not well formed, or the row or the claim has a wrong length */
-#define RC_OUT_OF_RANGE 2u  /* a number of the call is out of its range */
-#define RC_NOT_LIVE 3u      /* the calling process, or the process of a claim, is not live */
-#define RC_NO_SUCH_PLACE 4u /* a named place is free, or of a kind that the call does not take */
+#define RC_OUT_OF_RANGE 2u  /* a number of the call is out of its range, or no entry is lent */
+#define RC_NOT_LIVE 3u      /* the calling process, or that of a claim or a setpoint, is not live */
+#define RC_NO_SUCH_PLACE 4u /* a named place is free, or of a kind or a type that the call does not take */
 #define RC_NOT_ALLOWED 5u   /* the rules do not allow it */
 #define RC_NOT_REMOVABLE 6u /* the root, process 0 or a DIR with children is to be removed */
 #define RC_TOO_DEEP 7u      /* the new object would have depth 16 */
@@ -179,6 +180,11 @@
 #define RC_CLAIM_PROCESS_TYPES 3u /* Q, a set of process types */
 #define RC_CLAIM_FILE_TYPES 4u    /* T(0) to T(255), a set of filesystem types for each file place */
 
+/* ---- Setpoint lists ---- */
+#define RC_UNIT_METRES 0u          /* of head; the amount is in whole millimetres */
+#define RC_UNIT_KILOPASCALS 1u     /* the amount is in whole pascals */
+#define RC_SETPOINT_LIMIT 2000000u /* the largest amount, in millimetres or in pascals */
+
 #ifdef __cplusplus
 extern "C" {
 #endif
@@ -190,9 +196,9 @@ struct rc_answer {
 
 struct rc_found {
     uint32_t number;  /* 0, 1, 2 or 4; other than 0, the rest is 0 */
-    uint32_t value;   /* the effective value, never RC_INHERIT_PARENT */
-    uint32_t climbed; /* how many parents were climbed, 0 to 15 */
-    uint32_t place;   /* where the climb ended: the file whose own value this is, or the root, place 0 */
+    uint32_t value;   /* the effective value, never RC_INHERIT_PARENT, or the kind */
+    uint32_t climbed; /* how many parents were climbed, 0 to 15, and for the kind none */
+    uint32_t place;   /* where the climb ended: the file whose own value or kind this is, or the root, place 0 */
 };
 
 struct rc_verdict {
@@ -220,14 +226,34 @@ struct rc_found rc_effective_initial(const uint32_t *tables, size_t words, uint3
 /* The effective forced value of a file or directory: a role, RC_INHERIT_USER, RC_INHERIT_PROCESS or RC_UP_MIXED. */
 struct rc_found rc_effective_forced(const uint32_t *tables, size_t words, uint32_t file);
 
+/* Whether a place is a file or a directory: RC_FILE or RC_DIR. */
+struct rc_found rc_file_kind(const uint32_t *tables, size_t words, uint32_t file);
+
 /* Checks a claim of RC_CLAIM_WORDS words by the rules C1 to C9. Accepted with 0, the process and all that it clones hold
    only the roles of S, are granted no administration call (kinds 11 to 21) and never write, delete or create an object
    of the protected type, whatever calls are made, for as long as no process outside is granted one either. */
 struct rc_verdict rc_check_claim(const uint32_t *tables, size_t words, const uint32_t *claim, size_t claim_words);
 
+/* Enters an amount into a setpoint list, for a process that the monitor grants WRITE to that file. The entry is in pascals:
+   one metre of head is exactly 9,806.65 of them, rounded to nearest, halves up; pascals enter unchanged. The two types say
+   with each call which filesystem type is set aside for the lists of each unit; if they are equal, a list of that type
+   takes both units. A grant writes entries[0] alone, and a refusal none. Lend entries that lie apart from the tables.
+
+   2  The process, the list, the unit, the amount or one of the types, of whichever unit, is out of its range, or n_entries
+      is 0.
+   3  The process is not live.
+   4  The list's place is free or a DIR, or its effective type is not the one of the unit.
+   5  The process has no WRITE to the list.
+
+   Where a claim is accepted whose protected type is kilopascals_type, no process of its family is ever granted an entry in
+   a list of that type, under the condition that rc_check_claim names. */
+struct rc_answer rc_setpoint(const uint32_t *tables, size_t words, uint32_t process, uint32_t list, uint32_t unit,
+                             uint32_t amount, uint32_t metres_type, uint32_t kilopascals_type, uint32_t *entries,
+                             size_t n_entries);
+
 /* ---- In words ---- short texts for a log or a person; a number that is none of its kind has the text "unknown" */
 
-/* What a call, a query or a claim was answered, RC_GRANTED to RC_CLAIM_BROKEN. */
+/* What a call, a query, a claim or a setpoint was answered, RC_GRANTED to RC_CLAIM_BROKEN. */
 static inline const char *rc_number_text(uint32_t number)
 {
     switch (number) {
@@ -235,7 +261,7 @@ static inline const char *rc_number_text(uint32_t number)
     case RC_ILL_FORMED: return "the tables are not well formed, or a row has a wrong length";
     case RC_OUT_OF_RANGE: return "a number is out of its range";
     case RC_NOT_LIVE: return "the process is not live";
-    case RC_NO_SUCH_PLACE: return "a named place is free, or of the wrong kind";
+    case RC_NO_SUCH_PLACE: return "a named place is free, or of the wrong kind or type";
     case RC_NOT_ALLOWED: return "the rules do not allow it";
     case RC_NOT_REMOVABLE: return "the root, process 0 or a directory with children is not removed";
     case RC_TOO_DEEP: return "the new object would be too deep";

@@ -14,7 +14,7 @@ enum who { LIBRARY, PLAIN, PLAIN_BARE, GOOD, GOOD_BARE };
 
 static const char *const names[] = {"library", "plain", "plain-bare", "good", "good-bare"};
 
-static uint32_t row[RC_WORDS], claim[RC_CLAIM_WORDS];
+static uint32_t row[RC_WORDS], claim[RC_CLAIM_WORDS], entry;
 static uint32_t refused; /* stays 0: every call of the benchmark is granted */
 
 /* The calls of each of them; not inlined, so that all pay the same for the way there. */
@@ -62,6 +62,20 @@ __attribute__((noinline)) static void check_claim(enum who who)
     }
 }
 
+/* 45 metres of head into a file of type 0, which is the one of lists in metres. */
+#define SETPOINT CALLER, PROGRAM, RC_UNIT_METRES, 45000, 0, 1, &entry, 1
+
+__attribute__((noinline)) static void setpoint(enum who who)
+{
+    switch (who) {
+    case LIBRARY: refused |= rc_setpoint(row, RC_WORDS, SETPOINT).number; break;
+    case PLAIN: refused |= plain_setpoint(row, RC_WORDS, SETPOINT).number; break;
+    case PLAIN_BARE: refused |= plain_enter(row, SETPOINT).number; break;
+    case GOOD: refused |= good_setpoint(row, RC_WORDS, SETPOINT).number; break;
+    case GOOD_BARE: refused |= good_enter(row, SETPOINT).number; break;
+    }
+}
+
 static void access_file(enum who who)
 {
     call(who, RC_CALL_ACCESS, CALLER, RC_GROUP_FILESYSTEM, PROGRAM, RC_RIGHT_READ);
@@ -105,6 +119,7 @@ static const struct {
     {"climb", "effective type, depth 15", 1, climb, NULL},
     {"claim-dense", "claim accepted, dense", 1, check_claim, dense_claim},
     {"claim-sparse", "claim accepted, sparse", 1, check_claim, sparse_claim},
+    {"setpoint", "setpoint in metres", 1, setpoint, NULL},
 };
 
 #define ITEMS (sizeof items / sizeof items[0])

@@ -439,3 +439,38 @@ struct rc_verdict good_check_claim(const uint32_t *tables, size_t words, const u
         return (struct rc_verdict){RC_ILL_FORMED, 0};
     return good_judge_claim(tables, claim);
 }
+
+/* ---- Setpoints ---- */
+
+/* A millimetre of head is 980,665 hundred-thousandths of a pascal; half a pascal is added, and the rest cut off. */
+static uint32_t pascals_of(uint32_t millimetres)
+{
+    return (uint32_t)((millimetres * UINT64_C(980665) + 50000) / 100000);
+}
+
+struct rc_answer good_enter(const uint32_t *tables, uint32_t process, uint32_t list, uint32_t unit, uint32_t amount,
+                            uint32_t metres_type, uint32_t kilopascals_type, uint32_t *entries, size_t n_entries)
+{
+    const struct tables *t = (const struct tables *)tables;
+    if (process >= RC_PROCESSES || list >= RC_FILES || unit > RC_UNIT_KILOPASCALS || amount > RC_SETPOINT_LIMIT ||
+        (metres_type | kilopascals_type) >= RC_TYPES || n_entries == 0)
+        return answer(RC_OUT_OF_RANGE, 0);
+    if (!t->process[process].live)
+        return answer(RC_NOT_LIVE, 0);
+    uint32_t type = effective(t, list, TYPE);
+    if (t->file[list].kind != RC_FILE || type != (unit == RC_UNIT_METRES ? metres_type : kilopascals_type))
+        return answer(RC_NO_SUCH_PLACE, 0);
+    if (!has_right(t, RC_GROUP_FILESYSTEM, t->process[process].role, type, RC_RIGHT_WRITE))
+        return answer(RC_NOT_ALLOWED, 0);
+    entries[0] = unit == RC_UNIT_METRES ? pascals_of(amount) : amount;
+    return answer(RC_GRANTED, 0);
+}
+
+struct rc_answer good_setpoint(const uint32_t *tables, size_t words, uint32_t process, uint32_t list, uint32_t unit,
+                               uint32_t amount, uint32_t metres_type, uint32_t kilopascals_type, uint32_t *entries,
+                               size_t n_entries)
+{
+    if (!good_well_formed(tables, words))
+        return answer(RC_ILL_FORMED, 0);
+    return good_enter(tables, process, list, unit, amount, metres_type, kilopascals_type, entries, n_entries);
+}

@@ -43,6 +43,27 @@ static bool same_climb(uint32_t file)
            plain.place == good.place;
 }
 
+/* One setpoint by each, with three entries to write to. */
+static bool same_setpoint(uint32_t process, uint32_t list, uint32_t unit, uint32_t amount, uint32_t metres_type,
+                          uint32_t kilopascals_type, size_t n_entries)
+{
+    uint32_t from_plain[3] = {0}, from_good[3] = {0};
+    struct rc_answer plain = plain_setpoint(row, RC_WORDS, process, list, unit, amount, metres_type, kilopascals_type,
+                                            from_plain, n_entries);
+    struct rc_answer good = good_setpoint(row, RC_WORDS, process, list, unit, amount, metres_type, kilopascals_type,
+                                          from_good, n_entries);
+    return plain.number == good.number && plain.place == good.place &&
+           memcmp(from_plain, from_good, sizeof from_plain) == 0;
+}
+
+static bool same_setpoints(uint32_t n)
+{
+    return same_setpoint(n, PROGRAM, 0, 45000, 0, 1, 1) && same_setpoint(LAST_PROCESS, n, 0, 45000, 0, 1, 1) &&
+           same_setpoint(CALLER, n, 0, 10000, 0, 1, 2) && same_setpoint(CALLER, PROGRAM, n % 3, n, 0, n, n % 4) &&
+           same_setpoint(CALLER, PROGRAM, 1, n, n, 0, 3) &&
+           same_setpoint(CALLER, PROGRAM, 0, RC_SETPOINT_LIMIT + n, 0, 1, 1);
+}
+
 static bool same_verdict(void)
 {
     struct rc_verdict plain = plain_check_claim(row, RC_WORDS, claim, RC_CLAIM_WORDS);
@@ -56,7 +77,7 @@ static bool same_answers(uint32_t n)
     bool formed = plain_well_formed(row, RC_WORDS);
     if (formed != good_well_formed(row, RC_WORDS) || !same_verdict())
         return false;
-    return !formed || (same_calls(n) && same_climb(DEEP) && same_climb(n));
+    return !formed || (same_calls(n) && same_setpoints(n) && same_climb(DEEP) && same_climb(n));
 }
 
 /* The words from..to of a list, each with every number. */

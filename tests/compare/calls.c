@@ -10,8 +10,7 @@ static uint32_t huge(void)
     return percent(50) ? huges[below(sizeof huges / sizeof huges[0])] : (uint32_t)random_bits() | 0x400;
 }
 
-/* Mostly below the limit; else just past it, or far past it, or one that looks small to who drops the high bits. */
-static uint32_t number(uint32_t limit)
+uint32_t number(uint32_t limit)
 {
     if (percent(98))
         return below(limit);
@@ -40,7 +39,7 @@ static uint32_t place_in(uint32_t at, uint32_t places, uint32_t words)
     return place;
 }
 
-static uint32_t some_process(void)
+uint32_t some_process(void)
 {
     return percent(20) ? 0 : place_in(RC_PROCESSES_AT, RC_PROCESSES, RC_PROCESS_WORDS);
 }
@@ -50,8 +49,7 @@ static uint32_t some_file(void)
     return percent(8) ? 0 : place_in(RC_FILES_AT, RC_FILES, RC_FILE_WORDS);
 }
 
-/* Mostly one of this kind, where there is one. */
-static uint32_t some_file_of(uint32_t kind)
+uint32_t some_file_of(uint32_t kind)
 {
     uint32_t place = some_file();
     if (place >= RC_FILES || percent(15))

@@ -10,7 +10,16 @@ void random_call(uint32_t kind);
 /* A kind, those that empty the tables less often than the others. */
 uint32_t random_kind(void);
 
-/* The three queries at every place, and at numbers that are no place. */
+/* The queries at every place, and at numbers that are no place. */
 void all_queries(void);
+
+/* Mostly below the limit; else just past it, or far past it, or one that looks small to who drops the high bits. */
+uint32_t number(uint32_t limit);
+
+/* Mostly a live one. */
+uint32_t some_process(void);
+
+/* Mostly one of this kind, where there is one. */
+uint32_t some_file_of(uint32_t kind);
 
 #endif

@@ -1,6 +1,6 @@
-/* Compares the proved library with the plain version, which was written from the documents alone: on the marked
-   examples by hand, then on many random tables and calls from fixed seeds. After every call all words and the answer
-   must be the same, and every answer that a kind of call can give must have come.
+/* Compares the proved library with the plain version, which was written from the documents: on the marked
+   examples by hand, then on many random tables and calls from fixed seeds, then on every amount of head. After every call
+   all words and the answer must be the same, and every answer that a kind of call can give must have come.
    compare          everything; the last line is "compare: ok", and the status 0, exactly when all is well
    compare SCALE    the same, with so many times the random cases */
 #include "calls.h"
@@ -8,6 +8,7 @@
 #include "marked.h"
 #include "random.h"
 #include "rows.h"
+#include "setpoints.h"
 #include "twin.h"
 #include <inttypes.h>
 #include <stdio.h>
@@ -71,6 +72,7 @@ static void ask_everything(void)
     twin_well_formed();
     twin_queries(below(RC_FILES + 2));
     twin_claim(claim, RC_CLAIM_WORDS);
+    random_setpoint();
     random_call(random_kind());
 }
 
@@ -140,6 +142,7 @@ static const struct {
     {"several damaged words", several_words, 300},
     {"wrong lengths", wrong_lengths, 100},
     {"claims", claim_case, 300},
+    {"setpoints", setpoint_case, 200},
 };
 
 #define PARTS (sizeof parts / sizeof parts[0])
@@ -166,14 +169,18 @@ int main(int argc, char **argv)
 {
     uint64_t scale = argc > 1 ? strtoull(argv[1], NULL, 10) : 1;
     bool ok = marked_examples();
-    printf("marked examples, readings, full tables: %s\n", ok ? "as the document says" : "NOT as the document says");
+    printf("marked examples, readings, full tables, setpoints: %s\n",
+           ok ? "as the documents say" : "NOT as the documents say");
     for (size_t i = 0; i < PARTS; i++)
         printf("%s: seeds %" PRIu64 " to %" PRIu64 "\n", parts[i].name, first_seed(i),
                first_seed(i) + parts[i].cases * scale - 1);
+    printf("all roundings: 0 to %" PRIu32 " millimetres\n", RC_SETPOINT_LIMIT);
     fflush(stdout);
     for (uint64_t round = 0; round < ROUNDS * scale; round++)
         for (size_t i = 0; i < PARTS; i++)
             run_round(i, round);
+    all_roundings();
+    ok &= setpoint_report();
     ok &= twin_report();
     printf("compare: %s\n", ok ? "ok" : "FAILED");
     return ok ? 0 : 1;

@@ -15,12 +15,15 @@ static const struct monitor {
     struct rc_found (*type)(const uint32_t *, size_t, uint32_t);
     struct rc_found (*initial)(const uint32_t *, size_t, uint32_t);
     struct rc_found (*forced)(const uint32_t *, size_t, uint32_t);
+    struct rc_found (*kind)(const uint32_t *, size_t, uint32_t);
     struct rc_verdict (*claim)(const uint32_t *, size_t, const uint32_t *, size_t);
+    struct rc_answer (*setpoint)(const uint32_t *, size_t, uint32_t, uint32_t, uint32_t, uint32_t, uint32_t, uint32_t,
+                                 uint32_t *, size_t);
 } monitors[] = {
     {"library", rc_call, rc_fresh, rc_well_formed, rc_effective_type, rc_effective_initial, rc_effective_forced,
-     rc_check_claim},
+     rc_file_kind, rc_check_claim, rc_setpoint},
     {"plain C", plain_call, plain_fresh, plain_well_formed, plain_effective_type, plain_effective_initial,
-     plain_effective_forced, plain_check_claim},
+     plain_effective_forced, plain_file_kind, plain_check_claim, plain_setpoint},
 };
 
 static const struct monitor *m;
@@ -221,6 +224,61 @@ static void until_full(void)
     expect("full", "deletion of the root", call(RC_CALL_DELETE, 0, 0, 0, 0), 6);
 }
 
+/* ---- Setpoints ---- file 1 is a list in metres, file 2 one in kilopascals; each has the type of its number */
+
+#define METRES 1u
+#define KILOPASCALS 2u
+
+static uint32_t entries[2];
+
+static uint32_t enter(uint32_t process, uint32_t list, uint32_t unit, uint32_t amount, size_t n_entries)
+{
+    entries[0] = entries[1] = UINT32_MAX;
+    return m->setpoint(row, RC_WORDS, process, list, unit, amount, METRES, KILOPASCALS, entries, n_entries).number;
+}
+
+static void granted(uint32_t list, uint32_t unit, uint32_t amount, uint32_t pascals)
+{
+    expect("setpoints", "number", enter(0, list, unit, amount, 2), 0);
+    expect("setpoints", "first entry", entries[0], pascals);
+    expect("setpoints", "second entry", entries[1], UINT32_MAX);
+}
+
+static void refused(uint32_t process, uint32_t list, uint32_t unit, uint32_t amount, size_t n_entries, uint32_t number)
+{
+    expect("setpoints", "number", enter(process, list, unit, amount, n_entries), number);
+    expect("setpoints", "first entry after a refusal", entries[0], UINT32_MAX);
+}
+
+static void setpoints(void)
+{
+    fresh();
+    for (uint32_t list = METRES; list <= KILOPASCALS; list++) {
+        put_file(list, RC_FILE, 0, RC_INHERIT_PARENT, RC_INHERIT_PARENT);
+        file_at(row, list)[RC_FILE_TYPE] = list;
+        add_right(RC_GROUP_FILESYSTEM, 0, list, RC_RIGHT_WRITE);
+    }
+    expect("setpoints", "kind of a list", m->kind(row, RC_WORDS, METRES).value, RC_FILE);
+    expect("setpoints", "kind of the root", m->kind(row, RC_WORDS, 0).value, RC_DIR);
+    expect("setpoints", "number for a free place", m->kind(row, RC_WORDS, 3).number, 4);
+
+    granted(METRES, RC_UNIT_METRES, 0, 0);
+    granted(METRES, RC_UNIT_METRES, 1000, 9807);
+    granted(METRES, RC_UNIT_METRES, 10000, 98067);
+    granted(METRES, RC_UNIT_METRES, 45000, 441299);
+    granted(METRES, RC_UNIT_METRES, 2000000, 19613300);
+    granted(KILOPASCALS, RC_UNIT_KILOPASCALS, 45000, 45000);
+    granted(KILOPASCALS, RC_UNIT_KILOPASCALS, 2000000, 2000000);
+
+    refused(0, METRES, RC_UNIT_METRES, 2000001, 1, 2);
+    refused(1, METRES, RC_UNIT_METRES, 45000, 0, 2); /* an empty slice, though the process is dead too */
+    refused(1, KILOPASCALS, RC_UNIT_METRES, 45000, 1, 3); /* a dead process, though the list is wrong too */
+    refused(0, KILOPASCALS, RC_UNIT_METRES, 45000, 1, 4);
+    refused(0, 0, RC_UNIT_METRES, 45000, 1, 4);
+    *rights_at(row, RC_GROUP_FILESYSTEM, 0, METRES) = 0;
+    refused(0, METRES, RC_UNIT_METRES, 45000, 1, 5);
+}
+
 bool marked_examples(void)
 {
     good = true;
@@ -232,6 +290,7 @@ bool marked_examples(void)
         a8_to_a10();
         readings();
         until_full();
+        setpoints();
     }
     return good;
 }

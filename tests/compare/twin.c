@@ -5,7 +5,7 @@
 #include <string.h>
 
 static struct room {
-    uint32_t before[TWIN_SPARE], row[RC_WORDS], after[TWIN_SPARE];
+    uint32_t before[TWIN_SPARE], row[RC_WORDS], between[TWIN_SPARE], entries[TWIN_ENTRIES], after[TWIN_SPARE];
 } library, plain;
 
 static size_t lent = RC_WORDS;
@@ -15,9 +15,11 @@ static uint64_t calls;
 
 /* ---- How often each answer came ---- */
 
-enum { FRESH = RC_CALL_REMOVE_RIGHT + 1, WELL_FORMED, TYPE, INITIAL, FORCED, CLAIM, LINES };
+enum { FRESH = RC_CALL_REMOVE_RIGHT + 1, WELL_FORMED, TYPE, INITIAL, FORCED, KIND, CLAIM, IN_METRES, IN_KILOPASCALS,
+       IN_OTHER_UNIT, LINES };
 
-/* The calls by kind, 0 for all unknown ones; then the other functions. The digits are the answers that can occur. */
+/* The calls by kind, 0 for all unknown ones; then the other functions, setpoints by their unit. The digits are the answers
+   that can occur. */
 static const struct {
     const char *name, *answers;
 } line[LINES] = {
@@ -48,7 +50,11 @@ static const struct {
     {"effective type", "0124"},
     {"effective initial", "0124"},
     {"effective forced", "0124"},
+    {"file kind", "0124"},
     {"check claim", "01239"},
+    {"setpoint metres", "012345"},
+    {"setpoint kilopascals", "012345"},
+    {"setpoint other unit", "12"},
 };
 
 static uint64_t hits[LINES][10];
@@ -61,6 +67,10 @@ enum { ITSELF, ABOVE, AT_THE_ROOT, THREE_PLACES, ENDS };
 static const char *const end_name[ENDS] = {"at itself", "above", "at the root", "at three places"};
 static uint64_t end_hits[ENDS];
 
+enum { A_FILE, A_DIR, KINDS };
+static const char *const kind_name[KINDS] = {"FILE", "DIR"};
+static uint64_t kind_hits[KINDS];
+
 static void hit(int which, uint32_t number)
 {
     if (number > 9) {
@@ -69,6 +79,18 @@ static void hit(int which, uint32_t number)
     }
     hits[which][number]++;
     calls++;
+}
+
+bool twin_counts(const char *what, const char *const *names, const uint64_t *counts, int length)
+{
+    bool complete = true;
+    printf("%s:", what);
+    for (int i = 0; i < length; i++) {
+        printf("%s %s %" PRIu64, i ? "," : "", names[i], counts[i]);
+        complete &= counts[i] != 0;
+    }
+    printf("\n");
+    return complete;
 }
 
 bool twin_report(void)
@@ -103,12 +125,10 @@ bool twin_report(void)
         printf(" %" PRIu64, climb_hits[n]);
         complete &= climb_hits[n] != 0;
     }
-    printf("\nclimbs ended:");
-    for (int end = 0; end < ENDS; end++) {
-        printf(" %s %" PRIu64, end_name[end], end_hits[end]);
-        complete &= end_hits[end] != 0;
-    }
-    printf("\n%" PRIu64 " calls compared\n", calls);
+    printf("\n");
+    complete &= twin_counts("climbs ended", end_name, end_hits, ENDS);
+    complete &= twin_counts("kinds found", kind_name, kind_hits, KINDS);
+    printf("%" PRIu64 " calls compared\n", calls);
     return complete;
 }
 
@@ -143,10 +163,10 @@ static void print_difference(void)
             return;
         }
     printf("  the rows are the same%s\n",
-           memcmp(&library, &plain, sizeof library) ? ", but a word beside one of them changed" : "");
+           memcmp(&library, &plain, sizeof library) ? ", but an entry, or a word beside them, is not" : "");
 }
 
-/* Ends the program unless the answers and the rows are the same; the answers are rows of words too. */
+/* Ends the program unless the answers, the rows and the entries are the same; the answers are rows of words too. */
 static void compare(const char *what, const uint32_t *numbers, size_t count, const uint32_t *from_library,
                     const uint32_t *from_plain, size_t fields)
 {
@@ -223,12 +243,17 @@ bool twin_well_formed(void)
     return p;
 }
 
-/* Answers the place. */
-static uint32_t query(int which, uint32_t file, struct rc_found l, struct rc_found p)
+static void query(int which, uint32_t file, struct rc_found l, struct rc_found p)
 {
     uint32_t ls[] = {l.number, l.value, l.climbed, l.place}, ps[] = {p.number, p.value, p.climbed, p.place};
     compare(line[which].name, &file, 1, ls, ps, 4);
     hit(which, p.number);
+}
+
+/* A query that climbs; answers the place. */
+static uint32_t climb(int which, uint32_t file, struct rc_found l, struct rc_found p)
+{
+    query(which, file, l, p);
     if (p.number == RC_GRANTED) {
         climb_hits[p.climbed]++;
         end_hits[p.climbed == 0 ? ITSELF : p.place == 0 ? AT_THE_ROOT : ABOVE]++;
@@ -238,13 +263,17 @@ static uint32_t query(int which, uint32_t file, struct rc_found l, struct rc_fou
 
 void twin_queries(uint32_t file)
 {
-    uint32_t type = query(TYPE, file, rc_effective_type(library.row, lent, file),
+    uint32_t type = climb(TYPE, file, rc_effective_type(library.row, lent, file),
                           plain_effective_type(plain.row, lent, file));
-    uint32_t initial = query(INITIAL, file, rc_effective_initial(library.row, lent, file),
+    uint32_t initial = climb(INITIAL, file, rc_effective_initial(library.row, lent, file),
                              plain_effective_initial(plain.row, lent, file));
-    uint32_t forced = query(FORCED, file, rc_effective_forced(library.row, lent, file),
+    uint32_t forced = climb(FORCED, file, rc_effective_forced(library.row, lent, file),
                             plain_effective_forced(plain.row, lent, file));
     end_hits[THREE_PLACES] += type != initial && initial != forced && forced != type;
+    struct rc_found kind = plain_file_kind(plain.row, lent, file);
+    query(KIND, file, rc_file_kind(library.row, lent, file), kind);
+    kind_hits[A_FILE] += kind.value == RC_FILE;
+    kind_hits[A_DIR] += kind.value == RC_DIR;
 }
 
 struct rc_verdict twin_claim(const uint32_t *claim, size_t words)
@@ -259,5 +288,19 @@ struct rc_verdict twin_claim(const uint32_t *claim, size_t words)
     compare(line[CLAIM].name, claim, words < RC_CLAIM_FILE_TYPES ? words : RC_CLAIM_FILE_TYPES, ls, ps, 3);
     hit(CLAIM, p.number);
     rule_hits[p.rule]++;
+    return p;
+}
+
+struct rc_answer twin_setpoint(struct setpoint s)
+{
+    struct rc_answer l = rc_setpoint(library.row, lent, s.process, s.list, s.unit, s.amount, s.metres_type,
+                                     s.kilopascals_type, library.entries, s.n_entries);
+    struct rc_answer p = plain_setpoint(plain.row, lent, s.process, s.list, s.unit, s.amount, s.metres_type,
+                                        s.kilopascals_type, plain.entries, s.n_entries);
+    int which = s.unit == RC_UNIT_METRES ? IN_METRES : s.unit == RC_UNIT_KILOPASCALS ? IN_KILOPASCALS : IN_OTHER_UNIT;
+    uint32_t numbers[] = {s.process, s.list, s.unit, s.amount, s.metres_type, s.kilopascals_type, s.n_entries};
+    uint32_t ls[] = {l.number, l.place, library.entries[0]}, ps[] = {p.number, p.place, plain.entries[0]};
+    compare(line[which].name, numbers, 7, ls, ps, 3);
+    hit(which, p.number);
     return p;
 }

@@ -1,4 +1,4 @@
-/* Well-formed tables, fresh tables and effective values. */
+/* Well-formed tables, fresh tables, and what the queries answer. */
 #include "tables.h"
 #include <string.h>
 
@@ -114,4 +114,14 @@ struct rc_found plain_effective_initial(const uint32_t *tables, size_t words, ui
 struct rc_found plain_effective_forced(const uint32_t *tables, size_t words, uint32_t file)
 {
     return query(tables, words, file, FORCED);
+}
+
+/* Refused where the other queries are. */
+struct rc_found plain_file_kind(const uint32_t *tables, size_t words, uint32_t file)
+{
+    const struct tables *t = (const struct tables *)tables;
+    struct rc_found type = plain_effective_type(tables, words, file);
+    if (type.number != RC_GRANTED)
+        return type;
+    return (struct rc_found){RC_GRANTED, t->file[file].kind, 0, file};
 }

@@ -1,5 +1,6 @@
 // The process that makes a call: whether it may ask at all, its own role, and what that role allows.
 use crate::ranges::ranged;
+use crate::ranges::ranged_access;
 use model::Call;
 use model::Role;
 use model::numbers::PROCESS;
@@ -11,20 +12,38 @@ use tables::records::has_right;
 use tables::records::process_at;
 use tables::records::role_at;
 ghost use mathlib.Core.Path.{_≡_};
+ghost use mathlib.Core.Bool.{_&&_};
+ghost use lib.Dec.{ltb};
+ghost use Rattle.model.specs.Numbers.{_unless_, _▹_, PROCESS, PROCESSES};
+ghost use Rattle.model.specs.Records.{occupied as occupiedOf};
 ghost use Rattle.model.specs.Calls.{ownRole, may as mayOf, maySelf};
 ghost use Rattle.model.specs.Administration.{passes as passesOf, mayAssign, mayAdmin};
 ghost use Rattle.model.specs.Step.{callerNo};
 
 mod ranges;
 
-// Numbers 2 and 3: every number of the call is in its range, and the caller is live.
+// Numbers 2 and 3: the numbers of the call fit their ranges, the caller's does too, and the caller is live.
+fn head(t: &[u32], caller: u32, fits: bool) -> u32
+    ensures { λ r. ⌜ r ≡ 2 unless (ltb caller PROCESSES && fits) ▹ 3 unless occupiedOf (now (t .entry)) PROCESS caller ⌝ }
+{
+    first(
+        unless(2, (caller < PROCESSES) & fits),
+        unless(3, occupied(t, PROCESS, caller)),
+    )
+}
+
+// Numbers 2 and 3 of any call.
 pub fn caller_no(t: &[u32], caller: u32, call: Call) -> u32
     ensures { λ r. ⌜ r ≡ callerNo (now (t .entry)) caller call ⌝ }
 {
-    first(
-        unless(2, (caller < PROCESSES) & ranged(call)),
-        unless(3, occupied(t, PROCESS, caller)),
-    )
+    head(t, caller, ranged(call))
+}
+
+// Numbers 2 and 3 of an access, for those who make no other call.
+pub fn access_caller_no(t: &[u32], caller: u32, group: u32, object: u32, right: u32) -> u32
+    ensures { λ r. ⌜ r ≡ callerNo (now (t .entry)) caller (Call.Access group object right) ⌝ }
+{
+    head(t, caller, ranged_access(group, object, right))
 }
 
 // Own role: the caller's current role.

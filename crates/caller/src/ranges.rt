@@ -73,7 +73,14 @@ fn ranged_change(change: Change) -> bool
     }
 }
 
-// Every number of a call is in its range; access asks for no special right.
+// Every number of an access; it asks for no special right.
+pub fn ranged_access(group: u32, object: u32, right: u32) -> bool
+    ensures { λ r. ⌜ r ≡ rangedOf (Call.Access group object right) ⌝ }
+{
+    (group < GROUPS) & (object < places(group)) & (right < ADMIN)
+}
+
+// Every number of a call is in its range.
 pub fn ranged(call: Call) -> bool
     ensures { λ r. ⌜ r ≡ rangedOf call ⌝ }
 {
@@ -82,7 +89,7 @@ pub fn ranged(call: Call) -> bool
             group,
             object,
             right,
-        } => (group < GROUPS) & (object < places(group)) & (right < ADMIN),
+        } => ranged_access(group, object, right),
         Call::Clone => true,
         Call::Exit => true,
         Call::Execute { file } => file < FILES,

@@ -8,15 +8,19 @@ use model::Found;
 use model::Verdict;
 use queries::query_forced;
 use queries::query_initial;
+use queries::query_kind;
 use queries::query_type;
+use setpoints::Setpoint;
+use setpoints::enter;
 ghost use mathlib.Core.Path.{_≡_};
 ghost use mathlib.Core.List.{[], _∷_};
 ghost use Rattle.model.specs.Outcome.{outcome};
 ghost use Rattle.model.specs.WellFormed.{wellFormed};
 ghost use Rattle.model.specs.Fresh.{buildFresh};
-ghost use Rattle.model.specs.Queries.{queryType, queryInitial, queryForced};
+ghost use Rattle.model.specs.Queries.{queryType, queryInitial, queryForced, queryKind};
 ghost use Rattle.model.specs.Claims.{check as checkOf};
 ghost use Rattle.kinds.specs.Kinds.{stepByKind};
+ghost use Rattle.setpoints.specs.Setpoints.{enter as enterOf};
 
 // One call of a process, by its kind and its numbers; a fifth number is none that a call of today takes.
 #[no_mangle]
@@ -74,10 +78,43 @@ pub extern "C" fn rc_effective_forced(tables: &[u32], file: u32) -> Found
     query_forced(tables, file)
 }
 
+// Whether it is a FILE or a DIR.
+#[no_mangle]
+pub extern "C" fn rc_file_kind(tables: &[u32], file: u32) -> Found
+    ensures { λ r. ⌜ r ≡ queryKind (now (tables .entry)) file ⌝ }
+{
+    query_kind(tables, file)
+}
+
 // The verdict on a claim, by rules C1 to C9.
 #[no_mangle]
 pub extern "C" fn rc_check_claim(tables: &[u32], claim: &[u32]) -> Verdict
     ensures { λ r. ⌜ r ≡ checkOf (now (tables .entry)) (now (claim .entry)) ⌝ }
 {
     check(tables, claim)
+}
+
+// An amount entered into a setpoint list (W-202); only the entries change.
+#[no_mangle]
+pub extern "C" fn rc_setpoint(
+    tables: &[u32],
+    process: u32,
+    list: u32,
+    unit: u32,
+    amount: u32,
+    metres: u32,
+    kilopascals: u32,
+    entries: &mut [u32],
+) -> Answer
+    ensures { λ r. ⌜ outcome r (now (entries .exit)) ≡ enterOf (now (tables .entry)) (record { process = process; list = list; unit = unit; amount = amount; metres = metres; kilopascals = kilopascals }) (now (entries .entry)) ⌝ }
+{
+    let s = Setpoint {
+        process,
+        list,
+        unit,
+        amount,
+        metres,
+        kilopascals,
+    };
+    enter(tables, s, entries)
 }

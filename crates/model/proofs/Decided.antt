@@ -3,13 +3,13 @@
 -- Assumes nothing.
 use Prim.Native.Nat.{ℕ, zero, suc, _<_, _≤_}
 use mathlib.Core.Path.{_≡_, refl, sym}
-use mathlib.Core.Bool.{Bool, true, false, not, and-eq-true-iff}
+use mathlib.Core.Bool.{Bool, true, false, cond, not, and-eq-true-iff}
 use mathlib.Core.List.{List}
 use mathlib.Core.Logic.{_↔_}
 use native.Mathlib.Omega.{arith}
 use borrow.Author.Tests.{ltb-true, lt-ltb, leb-true, le-leb, eqb-true, eqb-false, eq-eqb, ne-eqb, not-true}
 use lib.Dec.{ltb, leb, eqb}
-use Rattle.model.specs.Numbers.{_unless_, _▹_}
+use Rattle.model.specs.Numbers.{_unless_, _▹_, lower}
 use Rattle.model.specs.Outcome.{outcome, granting, refusing, decide}
 use Rattle.model.specs.Step.{number}
 use Rattle.model.specs.declared.Answer.{Answer}
@@ -60,6 +60,12 @@ module _ (t : List ℕ) (n p : ℕ) (u : List ℕ) where
   pub decide-past : (head : ℕ) → head ≡ 0 → decide t (head ▹ n) p u ≡ decide t n p u
   decide-past head e = rw e
 
+-- what is answered is the number itself
+pub decide-number : (t : List ℕ) (n p : ℕ) (u : List ℕ) → decide t n p u .answer .number ≡ n
+unfolding decide
+decide-number t zero p u = refl
+decide-number t (suc n) p u = refl
+
 -- a call that changes nothing answers its number either way
 pub decide-nothing : (t : List ℕ) (n : ℕ) → refusing n t ≡ decide t n 0 t
 unfolding decide
@@ -86,6 +92,30 @@ then-iff n m = (go n, λ h. rw (h .0) (h .1))
     go : (n : ℕ) → n ▹ m ≡ 0 → (n ≡ 0) × (m ≡ 0)
     go zero e = (refl, e)
     go (suc k) e = absurd (omega arith)
+
+-- the lower of two numbers, where 0 is none
+pub lower-iff : (n m : ℕ) → (lower n m ≡ 0) ↔ ((n ≡ 0) × (m ≡ 0))
+unfolding lower
+lower-iff n m = (go n m, λ h. rw (h .0) (h .1))
+  where
+    neither : (b : Bool) (n m : ℕ) → cond b (suc m) (suc n) ≡ 0 → ⊥
+    neither true n m e = omega arith
+    neither false n m e = omega arith
+
+    some : (n : ℕ) → eqb (suc n) 0 ≡ false
+    some n = ne-eqb (suc n) 0 (omega arith)
+
+    go : (n m : ℕ) → lower n m ≡ 0 → (n ≡ 0) × (m ≡ 0)
+    go zero m e = (refl, e)
+    go (suc n) zero e = absurd (neither false n 0 (rw (some n) at e))
+    go (suc n) (suc m) e = absurd (neither (ltb (suc m) (suc n)) n m (rw (some n, some m) at e))
+
+-- nothing is lower than 1
+pub lower-one : (n : ℕ) → lower n 1 ≡ 1
+unfolding lower
+lower-one zero = refl
+lower-one (suc zero) = refl
+lower-one (suc (suc n)) = rw (ne-eqb (suc (suc n)) 0 (omega arith), lt-ltb 1 (suc (suc n)) (omega arith))
 
 unless-iff : (n : ℕ) (b : Bool) → (suc n unless b ≡ 0) ↔ (b ≡ true)
 unless-iff n b = (go b, λ h. rw h)
@@ -138,4 +168,4 @@ pub neb-iff : (a b : ℕ) → (eqb a b ≡ false) ↔ (a ≡ b → ⊥)
 neb-iff a b = (eqb-false a b, ne-eqb a b)
 
 pub ruleset tested =
-    (then-iff, unless-1, unless-2, unless-3, unless-4, unless-5, unless-6, unless-7, unless-8, unless-9, and-eq-true-iff, not-iff, ltb-iff, leb-iff, eqb-iff, neb-iff)
+    (then-iff, lower-iff, unless-1, unless-2, unless-3, unless-4, unless-5, unless-6, unless-7, unless-8, unless-9, and-eq-true-iff, not-iff, ltb-iff, leb-iff, eqb-iff, neb-iff)

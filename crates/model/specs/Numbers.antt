@@ -1,8 +1,8 @@
 -- The numbers that stand for things ("Tables"), and how the first refusal that applies is found ("Nine numbers").
 -- Assumes nothing.
 use Prim.Native.Nat.{ℕ, zero, suc}
-use mathlib.Core.Bool.{Bool, cond}
-use lib.Dec.{eqb}
+use mathlib.Core.Bool.{Bool, cond, not, _&&_, _||_}
+use lib.Dec.{eqb, ltb}
 
 -- ---- how many there are of each
 
@@ -192,3 +192,7 @@ n unless ok = cond ok 0 n
 abbrev pub _▹_ : ℕ → ℕ → ℕ
 zero ▹ m = m
 suc n ▹ m = suc n
+
+-- of two numbers that were found apart, the lower, where 0 is none
+unfoldable pub lower : ℕ → ℕ → ℕ
+lower n m = cond (eqb n 0 || (not (eqb m 0) && ltb m n)) m n

@@ -118,6 +118,11 @@ unadministered a other = true
 abbrev pub familyAfter : List ℕ → Family → Event → Family
 familyAfter t F (asks c call) = familyBy F c (step t c call .answer) (deed call)
 
+-- the family after a run
+unfoldable pub familyOver : List ℕ → Family → List Event → Family
+familyOver t F [] = F
+familyOver t F (e ∷ rest) = familyOver (happens t e .after) (familyAfter t F e) rest
+
 -- the hypothesis: a process outside the family is granted no administration call
 abbrev pub allowedAt : List ℕ → Family → Event → Bool
 allowedAt t F (asks c call) = F c || unadministered (step t c call .answer) (deed call)

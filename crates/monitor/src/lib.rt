@@ -21,6 +21,8 @@ ghost use mathlib.Core.Path.{_≡_};
 ghost use Rattle.model.specs.Outcome.{outcome, carryOut};
 ghost use Rattle.model.specs.Step.{ruling, act as actOf, step as stepOf};
 
+pub mod reading;
+
 // What the rules say of a call by a live caller with numbers in range.
 fn carry_out(t: &mut [u32], caller: u32, call: Call) -> Answer
     ensures { λ r. ⌜ outcome r (now (t .exit)) ≡ carryOut (now (t .entry)) (ruling (now (t .entry)) caller call) ⌝ }

@@ -1,5 +1,8 @@
 // What a process other than the administrator asks, told with its answer. Refused with 5, the tables tell why: which role lacks which right
 // to which type; a refusal leaves them as they were.
+use crate::names::KILOPASCALS;
+use crate::names::METRES;
+use crate::tell::number;
 use crate::tell::say;
 use crate::tell::tell;
 use crate::words;
@@ -7,11 +10,15 @@ use model::Answer;
 use model::Call;
 use model::numbers::EXECUTE;
 use model::numbers::FILESYSTEM;
+use model::numbers::WRITE;
 use monitor::step;
 use queries::query_type;
+use setpoints::Setpoint;
 use tables::records::process_at;
 
-// The number of a refusal by the rules.
+// The numbers of a list in another unit, and of a refusal by the rules.
+const NO_SUCH_LIST: u32 = 4;
+
 const NOT_ALLOWED: u32 = 5;
 
 fn lacks(t: &[u32], process: u32, file: u32, right: u32) {
@@ -54,4 +61,33 @@ pub(crate) fn execute(t: &mut [u32], text: &[u8], process: u32, file: u32) {
 // A new owner for the process itself; no change of owner is refused in this story.
 pub(crate) fn change_owner(t: &mut [u32], text: &[u8], process: u32, user: u32) {
     tell(text, step(t, process, Call::ChangeOwner { user }));
+}
+
+// The entry that was made, or the type that is not the unit's.
+fn entered(t: &[u32], a: Answer, list: u32, entry: u32) {
+    if a.number == 0 {
+        say(b"    the entry is ");
+        number(entry);
+        say(b" pascals\n");
+    } else if a.number == NO_SUCH_LIST {
+        say(b"    its type is ");
+        words::file_type(query_type(t, list).value);
+        say(b"\n");
+    }
+}
+
+// An amount for a setpoint list, in a unit of the library above the monitor.
+pub(crate) fn enter(t: &[u32], text: &[u8], process: u32, list: u32, unit: u32, amount: u32) {
+    let s = Setpoint {
+        process,
+        list,
+        unit,
+        amount,
+        metres: METRES,
+        kilopascals: KILOPASCALS,
+    };
+    let mut entries = [0u32; 1];
+    let a = setpoints::enter(t, s, &mut entries);
+    answered(t, text, a, process, list, WRITE);
+    entered(t, a, list, entries[0]);
 }

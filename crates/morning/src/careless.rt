@@ -4,6 +4,7 @@ use crate::administrator::file_right;
 use crate::administrator::incompatible;
 use crate::administrator::no_file_right;
 use crate::asking::access;
+use crate::asking::enter;
 use crate::asking::execute;
 use crate::blame::ask_checker;
 use crate::claim::fill;
@@ -18,6 +19,7 @@ use crate::tell::scene;
 use model::layout::CLAIM_LENGTH;
 use model::numbers::EXECUTE;
 use model::numbers::WRITE;
+use setpoints::METRES;
 
 fn careless_write(t: &mut [u32], w: &[u32]) {
     scene(b"A careless right.");
@@ -68,7 +70,7 @@ fn careless_program(t: &mut [u32], w: &[u32]) {
     ask_checker(t, w);
 }
 
-// What the checker named is what would happen.
+// What the checker named is what would happen; only an amount with its unit would still be refused.
 fn unasked(t: &mut [u32]) {
     scene(b"Had nobody asked the checker, the 45 would be in the wrong list again.");
     execute(
@@ -83,6 +85,14 @@ fn unasked(t: &mut [u32]) {
         PLANNER_PROCESS,
         KILOPASCALS_LIST,
         WRITE,
+    );
+    enter(
+        t,
+        b"It enters 45000 mm of head there",
+        PLANNER_PROCESS,
+        KILOPASCALS_LIST,
+        METRES,
+        45000,
     );
 }
 

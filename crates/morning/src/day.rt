@@ -2,6 +2,7 @@
 use crate::administrator::clone;
 use crate::asking::access;
 use crate::asking::change_owner;
+use crate::asking::enter;
 use crate::asking::execute;
 use crate::names::KILOPASCALS_LIST;
 use crate::names::METRES_LIST;
@@ -20,6 +21,8 @@ use crate::words;
 use model::numbers::READ;
 use model::numbers::WRITE;
 use queries::query_forced;
+use setpoints::KILOPASCALS;
+use setpoints::METRES;
 
 fn start_planner(t: &mut [u32]) {
     scene(b"The planner starts.");
@@ -88,14 +91,24 @@ fn fitter(t: &[u32]) {
     whence(t, SCHEDULER_PROGRAM);
 }
 
+// The same 45 metres for each list, and a plain write that names no unit.
 fn morning(t: &mut [u32]) {
     scene(b"The morning. The planner means 45 metres of head.");
-    access(
+    enter(
         t,
-        b"The planner's script writes 45 to the list in metres",
+        b"The planner's script enters 45000 mm of head in the list in metres",
         PLANNER_PROCESS,
         METRES_LIST,
-        WRITE,
+        METRES,
+        45000,
+    );
+    enter(
+        t,
+        b"The planner's script enters 45000 mm of head in the list in kilopascals",
+        PLANNER_PROCESS,
+        KILOPASCALS_LIST,
+        METRES,
+        45000,
     );
     access(
         t,
@@ -113,7 +126,7 @@ fn morning(t: &mut [u32]) {
 }
 
 fn right_way(t: &mut [u32]) {
-    scene(b"The 45 goes the right way: the scheduler makes 441 kilopascals of it.");
+    scene(b"The 45 goes the right way: the scheduler makes 441.299 kilopascals of it.");
     access(
         t,
         b"The scheduler reads the list in metres",
@@ -121,12 +134,13 @@ fn right_way(t: &mut [u32]) {
         METRES_LIST,
         READ,
     );
-    access(
+    enter(
         t,
-        b"The scheduler writes 441 to the list in kilopascals",
+        b"The scheduler enters 441299 Pa in the list in kilopascals",
         SCHEDULER_PROCESS,
         KILOPASCALS_LIST,
-        WRITE,
+        KILOPASCALS,
+        441299,
     );
     access(
         t,

@@ -24,6 +24,9 @@ fn main() {
     tell::say(
         b"The monitor sees types and rights, never the 45 itself: so lists in metres and lists in kilopascals are two types.\n",
     );
+    tell::say(
+        b"Above it, who enters an amount names its unit, and the list must be of the unit's type; entries are in pascals.\n",
+    );
     build_fresh(&mut t);
     people::run(&mut t);
     places::run(&mut t);

@@ -24,7 +24,7 @@ fn meaning(n: u32) {
         1 => say(b"the tables are damaged"),
         2 => say(b"a number is out of its range"),
         3 => say(b"the asking process is not there"),
-        4 => say(b"the thing named is not there, or of the wrong kind"),
+        4 => say(b"the thing named is not there, or of the wrong kind or unit"),
         5 => say(b"the rules do not allow it"),
         6 => say(b"this one is never removed"),
         7 => say(b"the directories are too deep"),

@@ -4,19 +4,22 @@
 use Prim.Native.Nat.{_+_, _<_, _≤_, suc, zero, ℕ}
 use mathlib.Core.Bool.{true}
 use mathlib.Core.List.{List}
+use mathlib.Core.Logic.{_≢_, _⊎_, inl, inr}
 use mathlib.Core.Path.{_∙_, _≡_, ap, refl, sym}
 use native.Mathlib.Numerals.{add-one}
 use native.Mathlib.Omega.{arith}
-use borrow.Author.Tests.{lt-ltb, ltb-true}
+use native.Mathlib.Decide.{ℕ-discrete}
+use borrow.Author.Tests.{eqb-false, lt-ltb, ltb-true, not-true}
 use Rattle.model.specs.declared.Climbed.{Climbed}
-use Rattle.model.specs.Numbers.{DEEPEST, FILES, FILESYSTEM, INHERIT-PARENT, UP-MIXED, USE-FORCED-ROLE}
-use Rattle.model.specs.Layout.{FILE-TYPE, FORCED, INITIAL, PARENT}
+use Rattle.model.specs.Numbers.{DEEPEST, DIR, FILE, FILES, FILESYSTEM, FREE, INHERIT-PARENT, UP-MIXED, USE-FORCED-ROLE}
+use Rattle.model.specs.Layout.{FILE-TYPE, FORCED, INITIAL, KIND, PARENT}
 use Rattle.model.specs.Records.{fileWord, occupied}
 use Rattle.model.specs.Effective.{effective, endsAt, rootValue, valueAt}
 use Rattle.model.specs.Queries.{foundBy, query, queryNo}
 use Rattle.model.proofs.Effective.{ComesDown, effective-all, effective-bound, effective-own, effective-top, effective-up}
-use Rattle.model.proofs.Formed.{WellFormed, facts}
-use Rattle.promises.specs.Promises.{A-query-answers-the-place-its-value-came-from, Asked-at-that-place-a-query-answers-the-same, At-most-15-parents-are-climbed, CameFrom, Inherits, Rule-17, Rule-19, Rule-5, The-count-is-the-number-of-parents-climbed, nthParent}
+use Rattle.model.proofs.Records.{file-occupied}
+use Rattle.model.proofs.Formed.{WellFormed, facts, used-file}
+use Rattle.promises.specs.Promises.{A-query-answers-the-effective-value, A-query-of-the-kind-answers-FILE-or-DIR, A-query-answers-the-place-its-value-came-from, Asked-at-that-place-a-query-answers-the-same, At-most-15-parents-are-climbed, CameFrom, Inherits, Rule-17, Rule-19, Rule-5, The-count-is-the-number-of-parents-climbed, nthParent}
 use Rattle.promises.specs.Tests.{Hold, queryTests}
 use Rattle.promises.proofs.Numbers.{a-query-is-answered-exactly-when-its-tests-hold, found-number}
 
@@ -108,3 +111,19 @@ asked-at-that-place-a-query-answers-the-same t slot o e =
     let (held, found) = answered t slot o e in
     let again = a-query-is-answered-exactly-when-its-tests-hold t slot p .0 .1 (held .0, (lt-ltb p FILES l, (u, tt))) in
     rw found (answered t slot p again .1 ∙ ap (foundBy 0) ends)
+
+-- ---- the value, and the kind
+
+pub a-query-answers-the-effective-value : A-query-answers-the-effective-value
+unfolding valueAt
+a-query-answers-the-effective-value t slot o e = rw (answered t slot o e .1)
+
+pub a-query-of-the-kind-answers-FILE-or-DIR : A-query-of-the-kind-answers-FILE-or-DIR
+a-query-of-the-kind-answers-FILE-or-DIR t o e =
+    let ((formed, (placed, (used, _))), found) = answered t KIND o e in
+    let most = used-file t (facts t formed) o (ltb-true o FILES placed) used .kind in
+    let least = eqb-false (fileWord t o KIND) FREE (not-true _ (sym (file-occupied t o) ∙ used)) in
+    (found ∙ ap (foundBy 0) (effective-own t KIND o (omega arith)), one-of (fileWord t o KIND) least most)
+  where
+    one-of : (k : ℕ) → k ≢ FREE → k ≤ DIR → (k ≡ FILE) ⊎ (k ≡ DIR)
+    one-of k least most = elim (ℕ-discrete k FILE) [ yes z ↦ inl z | no n ↦ inr (omega arith) ]

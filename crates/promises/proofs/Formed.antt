@@ -1,9 +1,9 @@
 -- The box never spoils its own tables: fresh tables are well formed, each call keeps them so, and number 1 is given only where they are not.
 -- Assumes nothing.
-use Prim.Native.Nat.{ℕ}
+use Prim.Native.Nat.{ℕ, suc, zero}
 use mathlib.Core.List.{List, [], _∷_}
-use mathlib.Core.Path.{_∙_, _≡_, sym}
-use mathlib.Core.Bool.{true, true≢false}
+use mathlib.Core.Path.{_∙_, _≡_, refl, sym}
+use mathlib.Core.Bool.{cond, true, true≢false}
 use native.Mathlib.Omega.{arith}
 use borrow.Author.Tests.{eq-eqb, ne-eqb}
 use lib.Dec.{eqb}
@@ -12,12 +12,15 @@ use Rattle.model.specs.Numbers.{_unless_}
 use Rattle.model.specs.Layout.{rowLength}
 use Rattle.model.specs.WellFormed.{wellFormed}
 use Rattle.model.specs.Fresh.{buildFresh, fresh}
+use Rattle.model.specs.declared.Climbed.{Climbed}
+use Rattle.model.specs.Effective.{effective, valueAt}
+use Rattle.model.specs.Queries.{foundBy, look, lookNo, query, queryNo}
 use Rattle.model.specs.Step.{step}
 use Rattle.model.specs.Runs.{Event, asks, after}
 use Rattle.model.proofs.Decided.{decide-granting, decide-refusing}
 use Rattle.model.proofs.Kept.{step-act, step-kept}
 use Rattle.model.proofs.FreshFormed.{fresh-formed}
-use Rattle.promises.specs.Promises.{A-call-keeps-the-tables-well-formed, Fresh-tables-are-well-formed, No-run-from-well-formed-tables-meets-number-1, On-well-formed-tables-act-is-step, Building-fresh-tables-asks-only-for-their-full-length}
+use Rattle.promises.specs.Promises.{A-call-keeps-the-tables-well-formed, Fresh-tables-are-well-formed, No-run-from-well-formed-tables-meets-number-1, On-well-formed-tables-act-is-step, On-well-formed-tables-look-is-the-querys-value, Building-fresh-tables-asks-only-for-their-full-length}
 use Rattle.promises.proofs.Numbers.{number-1}
 
 pub building-fresh-tables-asks-only-for-their-full-length : Building-fresh-tables-asks-only-for-their-full-length
@@ -44,3 +47,12 @@ no-run-from-well-formed-tables-meets-number-1 t run (asks c call) e one =
 
 pub on-well-formed-tables-act-is-step : On-well-formed-tables-act-is-step
 on-well-formed-tables-act-is-step t c call e = sym (step-act t c call e)
+
+-- a refusal answers 0, and number 0 the effective value
+found-value : (n : ℕ) (e : Climbed) → cond (eqb n 0) (e .value) 0 ≡ foundBy n e .value
+found-value zero e = refl
+found-value (suc n) e = rw (ne-eqb (suc n) 0 (omega arith))
+
+pub on-well-formed-tables-look-is-the-querys-value : On-well-formed-tables-look-is-the-querys-value
+unfolding look query queryNo valueAt
+on-well-formed-tables-look-is-the-querys-value t slot o e = rw e (found-value (lookNo t o) (effective t slot o))

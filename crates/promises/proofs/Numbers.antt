@@ -15,13 +15,12 @@ use Rattle.model.specs.Numbers.{PROCESS, PROCESSES, _unless_, _▹_}
 use Rattle.model.specs.Ranges.{ranged}
 use Rattle.model.specs.Records.{occupied}
 use Rattle.model.specs.WellFormed.{wellFormed}
-use Rattle.model.specs.Outcome.{decide}
 use Rattle.model.specs.Effective.{effective}
 use Rattle.model.specs.Queries.{foundBy, query, queryNo}
 use Rattle.model.specs.Calls.{accessNo, changeOwnerNo, changeRoleNo, cloneNo, createIpcNo, createNo, deleteIpcNo, deleteNo, executeNo, exitNo, ownRole}
 use Rattle.model.specs.Administration.{assignRoleNo, changeRightNo, changeSetNo, passes, roleAdminNo, rulingOn, setTypeNo, setUserRoleNo}
 use Rattle.model.specs.Step.{callerNo, ruling, number, step}
-use Rattle.model.proofs.Decided.{tested, then-iff, unless-1}
+use Rattle.model.proofs.Decided.{decide-number, tested, then-iff, unless-1}
 use Rattle.promises.specs.Promises.{isOneOf, A-call-answers-0-to-8, A-call-is-granted-exactly-when-its-tests-hold, A-call-is-refused-by-the-first-test-that-fails, A-query-answers-0-1-2-or-4, A-query-is-answered-exactly-when-its-tests-hold, Exit-answers-0-1-2-3-or-6}
 use Rattle.promises.specs.Tests.{changeTests, ownTests, callTests, queryTests, _ifNot_, Test}
 use Rattle.promises.proofs.First.{EachNumber, firstOf, then-zero, Numbered, each-number, first-number, first-of, first-zero, then-then, fails-of}
@@ -75,17 +74,12 @@ module _ (t : List ℕ) (c : ℕ) where
 
 -- ---- every call
 
-decide-number : (t : List ℕ) (n p : ℕ) (u : List ℕ) → decide t n p u .answer .number ≡ n
-unfolding decide
-decide-number t zero p u = refl
-decide-number t (suc n) p u = refl
-
 module _ (t : List ℕ) (c : ℕ) (call : Call) where
   pub step-number : step t c call .answer .number ≡ (1 unless wellFormed t ▹ number t c call)
   unfolding step
   step-number = decide-number t (1 unless wellFormed t ▹ number t c call) (ruling t c call .place) (ruling t c call .row)
 
-  step-first : step t c call .answer .number ≡ firstOf (callTests t c call)
+  pub step-first : step t c call .answer .number ≡ firstOf (callTests t c call)
   unfolding number callerNo
   step-first =
       step-number ∙ rw (call-chained t c call .0, then-then (2 unless (ltb c PROCESSES && ranged call)) (3 unless occupied t PROCESS c) (firstOf (ownTests t c call)))

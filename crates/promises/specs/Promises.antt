@@ -5,7 +5,7 @@
 use Prim.Native.Nat.{_+_, _<_, _≤_, suc, zero, ℕ}
 use mathlib.Core.Bool.{Bool, _||_, false, true}
 use mathlib.Core.List.{List, [], _∷_}
-use mathlib.Core.Logic.{_↔_, _≢_}
+use mathlib.Core.Logic.{_↔_, _≢_, _⊎_}
 use mathlib.Core.Path.{_≡_}
 use lib.Dec.{eqb}
 use lib.ListN.{length}
@@ -14,8 +14,8 @@ use Rattle.sets.specs.declared.RoleSet.{RoleSet}
 use Rattle.model.specs.declared.Answer.{Answer}
 use Rattle.model.specs.declared.Call.{Call}
 use Rattle.model.specs.declared.Change.{Change}
-use Rattle.model.specs.Numbers.{DEEPEST, FILES, FILESYSTEM, INHERIT-PARENT, ROOT, UP-MIXED, USE-FORCED-ROLE, places}
-use Rattle.model.specs.Layout.{FILE-TYPE, FORCED, INITIAL, PARENT, roleAddr, rowLength}
+use Rattle.model.specs.Numbers.{DEEPEST, DIR, FILE, FILES, FILESYSTEM, INHERIT-PARENT, ROOT, UP-MIXED, USE-FORCED-ROLE, places}
+use Rattle.model.specs.Layout.{FILE-TYPE, FORCED, INITIAL, KIND, PARENT, roleAddr, rowLength}
 use Rattle.model.specs.Words.{_!_}
 use Rattle.model.specs.Records.{fileWord, occupied, freePlace, hasRight}
 use Rattle.model.specs.WellFormed.{wellFormed}
@@ -23,10 +23,10 @@ use Rattle.model.specs.Policy.{SamePolicy}
 use Rattle.model.specs.Outcome.{Outcome, outcome, granting, refusing}
 use Rattle.model.specs.Fresh.{fresh, buildFresh}
 use Rattle.model.specs.Effective.{effective, rootValue, valueAt}
-use Rattle.model.specs.Queries.{query}
+use Rattle.model.specs.Queries.{look, query}
 use Rattle.model.specs.Step.{act, step}
-use Rattle.model.specs.Claims.{check}
-use Rattle.model.specs.Runs.{Event, administers, allowed, confined, deed, founder, happens, after}
+use Rattle.model.specs.Claims.{check, typeIn}
+use Rattle.model.specs.Runs.{Event, administers, allowed, confined, deed, familyOver, founder, happens, harmless, after}
 use Rattle.promises.specs.Tests.{FirstFails, Hold, callTests, claimTests, queryTests, rules}
 use Rattle.promises.specs.Writes.{writes, placeTaken, Wrote}
 
@@ -159,6 +159,10 @@ No-run-from-well-formed-tables-meets-number-1 =
 abbrev pub On-well-formed-tables-act-is-step : Type 0
 On-well-formed-tables-act-is-step = (t : List ℕ) (c : ℕ) (call : Call) → wellFormed t ≡ true → act t c call ≡ step t c call
 
+-- And a look comes to the value that a query answers.
+abbrev pub On-well-formed-tables-look-is-the-querys-value : Type 0
+On-well-formed-tables-look-is-the-querys-value = (t : List ℕ) (slot o : ℕ) → wellFormed t ≡ true → look t slot o ≡ query t slot o .value
+
 -- ---- effective values, in the paper's words
 
 -- the value in the word `slot` of an occupied file: where it is inherit parent, that of the parent, and at the root, which has none, the default;
@@ -229,6 +233,18 @@ Asked-at-that-place-a-query-answers-the-same =
     → query t slot o .number ≡ 0
     → query t slot (query t slot o .place) ≡ record { number = 0; value = query t slot o .value; climbed = 0; place = query t slot o .place }
 
+-- The value that a query answers is the one that calls and claims go by.
+abbrev pub A-query-answers-the-effective-value : Type 0
+A-query-answers-the-effective-value = (t : List ℕ) (slot o : ℕ) → query t slot o .number ≡ 0 → query t slot o .value ≡ valueAt t slot o
+
+-- W-202: a query of the kind answers the file's own, which is FILE or DIR, and climbs nothing.
+abbrev pub A-query-of-the-kind-answers-FILE-or-DIR : Type 0
+A-query-of-the-kind-answers-FILE-or-DIR =
+    (t : List ℕ) (o : ℕ)
+    → query t KIND o .number ≡ 0
+    → (query t KIND o ≡ record { number = 0; value = fileWord t o KIND; climbed = 0; place = o })
+    × ((fileWord t o KIND ≡ FILE) ⊎ (fileWord t o KIND ≡ DIR))
+
 -- ---- there is one right answer
 
 -- Two answers with the rows they leave, each what one definition says, are the same answer and the same row.
@@ -252,3 +268,13 @@ Values-to-one-contract-coincide = (A : Type 0) (r s d : A) → r ≡ d → s ≡
 abbrev pub An-accepted-claim-confines : Type 0
 An-accepted-claim-confines =
     (t w : List ℕ) (run : List Event) → check t w .number ≡ 0 → allowed t (founder w) run ≡ true → confined w t (founder w) run ≡ true
+
+-- So after any such run, whatever a member of the family then calls is no administration call granted, and no write, removal or creation of an
+-- object of that type.
+abbrev pub Whatever-has-happened-a-member-does-no-harm : Type 0
+Whatever-has-happened-a-member-does-no-harm =
+    (t w : List ℕ) (run : List Event) (c : ℕ) (call : Call)
+    → check t w .number ≡ 0
+    → allowed t (founder w) run ≡ true
+    → familyOver t (founder w) run c ≡ true
+    → harmless (typeIn w) (after t run) (step (after t run) c call) (deed call) ≡ true

@@ -1,11 +1,12 @@
-// What the scope document asks to be run: the marked examples, every table filled to its last place, and each number once; and where effective
-// values come from.
+// What the scope document asks to be run: the marked examples, every table filled to its last place, and each number once; and what change requests
+// brought, where effective values come from and what enters setpoint lists.
 // A line tells a trial and what it came to; every group of trials begins with fresh tables.
 use model::layout::ROW_LENGTH;
 
 mod administrator;
 mod claim;
 mod full;
+mod lists;
 mod marked;
 mod numbers;
 mod tell;
@@ -16,6 +17,7 @@ fn main() {
     marked::run(&mut t);
     claim::example(&mut t);
     whence::run(&mut t);
+    lists::run(&mut t);
     full::run(&mut t);
     numbers::run(&mut t);
     claim::numbers(&mut t);

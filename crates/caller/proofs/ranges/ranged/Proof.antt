@@ -7,8 +7,8 @@ use Rattle.caller.proofs.ranges.ranged.Tie as tie
 enum-known-call : tie.Need-enum-known-call
 enum-known-call c = search needs
 
-places-requires : tie.Need-places-requires
-places-requires c κs = search needs
+ranged-access-requires : tie.Need-ranged-access-requires
+ranged-access-requires c κs = search needs
 
 enum-told : tie.Need-enum-told
 enum-told c = search needs
@@ -44,7 +44,7 @@ ranged-change-requires : tie.Need-ranged-change-requires
 ranged-change-requires c κs = search needs
 
 returns : tie.Need-returns
-returns c = rw (c .before .before .call .given .1) (simp (c .places .ensures))
+returns c = rw (c .before .before .call .given .1) (c .ranged-access .ensures)
 
 returns-2 : tie.Need-returns-2
 returns-2 c = search needs
@@ -81,7 +81,7 @@ ranged-spec =
     tie.close
     (tie.spec
     enum-known-call
-    places-requires
+    ranged-access-requires
     enum-told
     enum-told-2
     enum-known-call-2

@@ -1,0 +1,15 @@
+-- The code tests what the definition tests.
+use Rattle.model.specs.Numbers.{lower}
+use Rattle.rules.proofs.refusal.lower.Statement.{statement}
+use Rattle.rules.proofs.refusal.lower.Tie as tie
+
+returns : tie.Need-returns
+unfolding lower
+returns c = rw (c .if1 .taken)
+
+returns-2 : tie.Need-returns-2
+unfolding lower
+returns-2 c = rw (c .if1 .left)
+
+pub lower-spec : {M : Type 1} → statement M
+lower-spec = tie.close (tie.spec returns returns-2)

@@ -1,0 +1,5 @@
+pub mod Rounding
+pub mod Number
+pub mod Order
+pub mod Morning
+pub mod Examples

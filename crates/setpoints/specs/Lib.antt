@@ -1,0 +1,3 @@
+pub mod Pascals
+pub mod Setpoints
+pub mod Promises
