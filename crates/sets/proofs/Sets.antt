@@ -1,20 +1,21 @@
 -- Laws of the sets. To add 2 ^ i where bit i is 0 turns bit i on and leaves each other bit: below i nothing is carried,
 -- and above i the carry stops at bit i. To take 2 ^ i away where bit i is 1 is that read backwards.
--- A word is halved bit by bit, so two words with the same bits are equal. The machine's `&` and `|` act on each bit by itself:
--- so the words of two sets, taken together, say what their members say one by one.
+-- A word is halved bit by bit, so two words with the same bits are equal. The machine's `&` and `|` act on each bit by itself,
+-- and its count of ones adds the bits up: so the words of sets say what their members say one by one.
 use Prim.Native.Nat.{ℕ, zero, suc, _+_, _-_, _*_, _/_, _%_, _^_, _≤_, _<_}
 use mathlib.Core.Path.{_≡_, refl, sym, ap, _∙_}
 use mathlib.Core.Bool.{Bool, true, false, cond, not, _&&_, _||_, or-false}
 use mathlib.Core.Logic.{⊎-elim, _≢_}
-use native.Mathlib.Nat.{add-mul-div-right, add-div-right, mul-comm, le-div-iff-mul-le, eq-or-lt-of-le, le-of-suc-le-suc}
+use native.Mathlib.Nat.{add-comm, mod-lt, mod-eq-of-lt, add-mul-div-right, add-div-right, mul-comm, le-div-iff-mul-le, eq-or-lt-of-le, le-of-suc-le-suc}
 use native.Mathlib.Numerals.{add-one, one-add}
 use native.Mathlib.Omega.{arith}
 use borrow.Author.Tests.{eq-eqb, ne-eqb, eqb-true, eqb-false, lt-ltb, le-ltb, ltb-true, le-leb, lt-leb}
 use lib.Dec.{ltb, eqb}
+use lib.Count.{ones, ones-cat}
 use lib.Bits.{bitAnd, bitOr, and-shr, or-shr, and-mod, or-mod, and-lt, or-lt}
-use lib.Pow.{shr-lt, shl-exact, pow-pos, pow-add, shr-shr, shr-le}
+use lib.Pow.{shr-lt, shl-exact, pow-pos, pow-add, shr-shr, shr-le, mod-pow-add}
 use Rattle.sets.specs.Sets.{has, added, removed, sizeOf, inside, meets, collect, joined, union}
-use Rattle.sets.specs.Below.{someBelow}
+use Rattle.sets.specs.Below.{someBelow, countBelow}
 use Rattle.sets.proofs.Below.{by-bool, same-truth, lt-or-le, left, right, both, all-at, all-of, some-at, some-of, not-some, some-next, count-bound, count-more}
 
 -- ---- words: what adding 2 ^ i does to bit j
@@ -183,6 +184,24 @@ module _ (s i : ℕ) where
 pub size-bound : (s : ℕ) → sizeOf s ≤ 32
 unfolding sizeOf
 size-bound s = count-bound (has s) 32
+
+-- a digit is 1 just where its place is a member
+ones-digit : (s n : ℕ) → n < 32 → ones (s / 2 ^ n % 2) ≡ cond (has s n) 1 0
+unfolding ones
+ones-digit s n l = by-bool (λ b. ones (s / 2 ^ n % 2) ≡ cond b 1 0) (has s n) (λ e. rw (has-bit s n e)) (λ e. rw (no-bit s n l e))
+
+-- the ones of the lowest digits are counted from the top digit down, as `countBelow` counts members
+ones-below : (s n : ℕ) → n ≤ 32 → ones (s % 2 ^ n) ≡ countBelow n (has s)
+unfolding countBelow ones
+ones-below s zero l = let z : s % 2 ^ 0 ≡ 0 = omega arith in rw z
+ones-below s (suc n) l =
+    rw (← one-add n, mod-pow-add s 1 n, ones-cat n (s / 2 ^ n % 2) (s % 2 ^ n) (mod-lt s (pow-pos n)), ones-digit s n l, ones-below s n (omega arith))
+    (add-comm (cond (has s n) 1 0) (countBelow n (has s)))
+
+-- the machine's count of the ones of a word
+pub size-word : (s : ℕ) → s < 2 ^ 32 → ones s ≡ sizeOf s
+unfolding sizeOf
+size-word s h = ap ones (sym (mod-eq-of-lt h)) ∙ ones-below s 32 (omega arith)
 
 -- ---- one set inside another
 

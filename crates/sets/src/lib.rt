@@ -1,5 +1,5 @@
 // Sets of numbers below 32, each held in one word: whether a number is in one, with it, without it, how many.
-// Two sets are compared and joined word by word, and not number by number.
+// Sets are compared, joined and counted word by word, and not number by number.
 ghost use mathlib.Core.Path.{_≡_};
 ghost use Rattle.sets.specs.Sets.{has as hasOf, added, removed, sizeOf, meets as meetsOf, inside as insideOf, joined};
 
@@ -48,15 +48,7 @@ impl RoleSet {
     pub fn size(self) -> u32
         ensures { λ r. ⌜ r ≡ sizeOf (self .bits) ⌝ }
     {
-        let mut n: u32 = 0;
-        let mut i: u32 = 0;
-        while i < 32 {
-            if self.has(i) {
-                n += 1;
-            }
-            i += 1;
-        }
-        n
+        u32::count_ones(self.bits)
     }
 
     // Whether some number is in both sets.

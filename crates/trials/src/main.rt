@@ -1,5 +1,5 @@
 // What the scope document asks to be run: the marked examples, every table filled to its last place, and each number once; and what change requests
-// brought, where effective values come from and what enters setpoint lists.
+// brought, where effective values come from, what enters setpoint lists and how many members a role set has.
 // A line tells a trial and what it came to; every group of trials begins with fresh tables.
 use model::layout::ROW_LENGTH;
 
@@ -9,6 +9,7 @@ mod full;
 mod lists;
 mod marked;
 mod numbers;
+mod sizes;
 mod tell;
 mod whence;
 
@@ -18,6 +19,7 @@ fn main() {
     claim::example(&mut t);
     whence::run(&mut t);
     lists::run(&mut t);
+    sizes::run(&mut t);
     full::run(&mut t);
     numbers::run(&mut t);
     claim::numbers(&mut t);
