@@ -259,10 +259,11 @@ static struct rc_answer change_set(struct tables *t, const struct role *own, uin
     return grant(0);
 }
 
-/* H6. */
+/* Rule 26. */
 static struct rc_answer set_user_role(struct tables *t, const struct role *own, uint32_t user, uint32_t role)
 {
-    if (!own->mark && !contains(own->assign, role))
+    bool separated = contains(own->assign, role) && contains(own->assign, t->user_role[user]);
+    if (!own->mark && !separated)
         return refuse(RC_NOT_ALLOWED);
     t->user_role[user] = role;
     return grant(0);

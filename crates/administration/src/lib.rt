@@ -1,5 +1,5 @@
-// The administration calls (rules 23 to 34, H4 to H11), each by a live caller with numbers in range (`monitor::act` has tested that). Each decides
-// a number, and where that is 0 writes one word of the row; it answers and leaves what the ruling says, on any row.
+// The administration calls (rules 23 to 34, H4, H5 and H7 to H11), each by a live caller with numbers in range (`monitor::act` has tested that).
+// Each decides a number, and where that is 0 writes one word of the row; it answers and leaves what the ruling says, on any row.
 use model::Answer;
 use model::Change;
 use objects::set_forced;

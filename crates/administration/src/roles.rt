@@ -15,6 +15,7 @@ use rules::refusal::unless;
 use tables::addresses::rights_addr;
 use tables::addresses::role_addr;
 use tables::addresses::user_addr;
+use tables::records::user_role;
 use tables::words::set_at;
 ghost use mathlib.Core.Path.{_≡_};
 ghost use Rattle.model.specs.declared.Change.{Change};
@@ -54,11 +55,13 @@ pub fn change_set(
     decide_word(t, number, at, v)
 }
 
-// A user's default role: the new role is in own assign roles (H6).
+// A user's default role: the new one and the one before it are in own assign roles (rule 26).
 pub fn set_user_role(t: &mut [u32], caller: u32, user: u32, role: u32) -> Answer
     ensures { λ r. ⌜ outcome r (now (t .exit)) ≡ carryOut (now (t .entry)) (rulingOn (now (t .entry)) caller (Change.SetUserRole user role)) ⌝ }
 {
-    let number = unless(5, passes(t, caller, may_assign(t, caller, role)));
+    let before = user_role(t, user);
+    let both = may_assign(t, caller, role) & may_assign(t, caller, before);
+    let number = unless(5, passes(t, caller, both));
     decide_word(t, number, user_addr(user), role)
 }
 

@@ -98,7 +98,7 @@ module _ (t₀ w : List ℕ) (claim : Accepted t₀ w) (t : List ℕ) (F : Famil
   unfolding rulingOn changeSetNo setUserRoleNo roleAdminNo changeRightNo
   no-change (Change.AddRole s r member) l e = no-change-set s r member (simp tested at e)
   no-change (Change.RemoveRole s r member) l e = no-change-set s r member (simp tested at e)
-  no-change (Change.SetUserRole u r) l e = no-assign r (by-rule _ (simp tested at e))
+  no-change (Change.SetUserRole u r) l e = let x = simp tested at (by-rule _ (simp tested at e)) in no-assign r (x .0)
   no-change (Change.SetInitial f v) l e = no-assign-role FILESYSTEM f v e
   no-change (Change.SetForced f v) l e = no-assign-role FILESYSTEM f v e
   no-change (Change.SetProcessForced p v) l e = no-assign-role PROCESS p v e

@@ -2,3 +2,4 @@ pub mod Fresh
 pub mod Computing
 pub mod Marked
 pub mod Confined
+pub mod DefaultRoles

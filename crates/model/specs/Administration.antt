@@ -1,4 +1,4 @@
--- The administration calls ("Administration calls"; rules 23 to 34, H4 to H11). Each writes one word of the row.
+-- The administration calls ("Administration calls"; rules 23 to 34, H4, H5 and H7 to H11). Each writes one word of the row.
 -- Adding what is there and removing what is not leaves that word as it was (H11), since `added` and `removed` do.
 -- Assumes nothing.
 use Prim.Native.Nat.{ℕ, _+_}
@@ -11,7 +11,7 @@ use Rattle.model.specs.declared.Change.{Change}
 use Rattle.model.specs.Numbers.{_unless_, _▹_, FILESYSTEM, PROCESS, COMPATIBLE-ROLES, INHERIT-PARENT, MODIFY-ATTRIBUTE, ADMIN, ASSIGN, ACCESS-CONTROL, SUPERVISOR, ROOT-TYPE, isRoot, byGroup}
 use Rattle.model.specs.Layout.{PROCESS-TYPE, PROCESS-FORCED, MARK, DEFAULTS, IPC-TYPE, PARENT, FILE-TYPE, INITIAL, FORCED, userAddr, roleAddr, fileAddr, processAddr, ipcAddr, rightsAddr}
 use Rattle.model.specs.Words.{_!_}
-use Rattle.model.specs.Records.{fileWord, occupied}
+use Rattle.model.specs.Records.{fileWord, userRole, occupied}
 use Rattle.model.specs.Effective.{valueAt, typeOf}
 use Rattle.model.specs.Outcome.{Ruling, ruled}
 use Rattle.model.specs.Calls.{ownRole, may}
@@ -39,10 +39,10 @@ changeSetNo t c s r member = 5 unless passes t c (eqb s COMPATIBLE-ROLES && mayA
 unfoldable pub changeSetRow : Bool → List ℕ → ℕ → ℕ → ℕ → List ℕ
 changeSetRow adding t s r member = set t (roleAddr r + s) (changed adding (t ! (roleAddr r + s)) member)
 
--- ---- set a user's default role: the new role is in own assign roles (H6)
+-- ---- set a user's default role (rule 26): the new role and the one before it are in own assign roles
 
-unfoldable pub setUserRoleNo : List ℕ → ℕ → ℕ → ℕ
-setUserRoleNo t c r = 5 unless passes t c (mayAssign t c r)
+unfoldable pub setUserRoleNo : List ℕ → ℕ → ℕ → ℕ → ℕ
+setUserRoleNo t c u r = 5 unless passes t c (mayAssign t c r && mayAssign t c (userRole t u))
 
 unfoldable pub setUserRoleRow : List ℕ → ℕ → ℕ → List ℕ
 setUserRoleRow t u r = set t (userAddr u) r
@@ -112,7 +112,7 @@ changeRightRow adding t g r k right = set t (rightsAddr g r k) (changed adding (
 unfoldable pub rulingOn : List ℕ → ℕ → Change → Ruling
 rulingOn t c (Change.AddRole s r member) = ruled (changeSetNo t c s r member) 0 (changeSetRow true t s r member)
 rulingOn t c (Change.RemoveRole s r member) = ruled (changeSetNo t c s r member) 0 (changeSetRow false t s r member)
-rulingOn t c (Change.SetUserRole u r) = ruled (setUserRoleNo t c r) 0 (setUserRoleRow t u r)
+rulingOn t c (Change.SetUserRole u r) = ruled (setUserRoleNo t c u r) 0 (setUserRoleRow t u r)
 rulingOn t c (Change.SetInitial f v) = ruled (assignRoleNo t c FILESYSTEM f v) 0 (setInitialRow t f v)
 rulingOn t c (Change.SetForced f v) = ruled (assignRoleNo t c FILESYSTEM f v) 0 (setForcedRow t f v)
 rulingOn t c (Change.SetProcessForced p v) = ruled (assignRoleNo t c PROCESS p v) 0 (setProcessForcedRow t p v)

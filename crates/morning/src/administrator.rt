@@ -1,9 +1,8 @@
-// The administrator's calls, each told as it is made. Every administration call of the story is made here.
+// The administrator's calls, each told as it is made; no other process of the story is granted an administration call.
 use crate::names::ADMINISTRATOR_PROCESS;
 use crate::tell::tell;
 use model::Call;
 use model::Change;
-use model::numbers::COMPATIBLE_ROLES;
 use model::numbers::FILESYSTEM;
 use model::numbers::PROCESS;
 use monitor::step;
@@ -55,30 +54,14 @@ pub(crate) fn process_right(t: &mut [u32], text: &[u8], role: u32, rctype: u32, 
     );
 }
 
-// Lets one role turn into another.
-pub(crate) fn compatible(t: &mut [u32], text: &[u8], role: u32, member: u32) {
-    administer(
-        t,
-        text,
-        Change::AddRole {
-            set: COMPATIBLE_ROLES,
-            role,
-            member,
-        },
-    );
+// Adds a role to those that a role may turn into, or to those that it assigns.
+pub(crate) fn add_role(t: &mut [u32], text: &[u8], set: u32, role: u32, member: u32) {
+    administer(t, text, Change::AddRole { set, role, member });
 }
 
 // Takes that back.
-pub(crate) fn incompatible(t: &mut [u32], text: &[u8], role: u32, member: u32) {
-    administer(
-        t,
-        text,
-        Change::RemoveRole {
-            set: COMPATIBLE_ROLES,
-            role,
-            member,
-        },
-    );
+pub(crate) fn remove_role(t: &mut [u32], text: &[u8], set: u32, role: u32, member: u32) {
+    administer(t, text, Change::RemoveRole { set, role, member });
 }
 
 // Gives a user a role to begin with.

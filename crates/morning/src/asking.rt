@@ -1,5 +1,5 @@
 // What a process other than the administrator asks, told with its answer. Refused with 5, the tables tell why: which role lacks which right
-// to which type; a refusal leaves them as they were.
+// to which type, or does not assign which role; a refusal leaves them as they were.
 use crate::names::KILOPASCALS;
 use crate::names::METRES;
 use crate::tell::number;
@@ -8,6 +8,7 @@ use crate::tell::tell;
 use crate::words;
 use model::Answer;
 use model::Call;
+use model::Change;
 use model::numbers::EXECUTE;
 use model::numbers::FILESYSTEM;
 use model::numbers::WRITE;
@@ -15,6 +16,8 @@ use monitor::step;
 use queries::query_type;
 use setpoints::Setpoint;
 use tables::records::process_at;
+use tables::records::role_at;
+use tables::records::user_role;
 
 // The numbers of a list in another unit, and of a refusal by the rules.
 const NO_SUCH_LIST: u32 = 4;
@@ -61,6 +64,29 @@ pub(crate) fn execute(t: &mut [u32], text: &[u8], process: u32, file: u32) {
 // A new owner for the process itself; no change of owner is refused in this story.
 pub(crate) fn change_owner(t: &mut [u32], text: &[u8], process: u32, user: u32) {
     tell(text, step(t, process, Call::ChangeOwner { user }));
+}
+
+fn assigns_not(t: &[u32], process: u32, role: u32) {
+    let own = process_at(t, process).role;
+    let assign = role_at(t, own).assign;
+    if !assign.has(role) {
+        say(b"    ");
+        words::role(own);
+        say(b" does not assign ");
+        words::role(role);
+        say(b"\n");
+    }
+}
+
+// A default role for a user; rule 26 asks for the role before and for the new one.
+pub(crate) fn user(t: &mut [u32], text: &[u8], process: u32, user: u32, role: u32) {
+    let change = Change::SetUserRole { user, role };
+    let a = step(t, process, Call::Administer { change });
+    tell(text, a);
+    if a.number == NOT_ALLOWED {
+        assigns_not(t, process, user_role(t, user));
+        assigns_not(t, process, role);
+    }
 }
 
 // The entry that was made, or the type that is not the unit's.

@@ -35,6 +35,18 @@ fn held(t: &[u32], role: u32, rctype: u32, right: u32) {
     }
 }
 
+// Rule 2 of a role of the family, as far as this story goes: the lowest role that it assigns.
+fn assigns(t: &[u32], w: &[u32], role: u32) {
+    let assign = role_at(t, role).assign.bits;
+    if roles_in(w).has(role) & (assign != 0) {
+        say(b"    ");
+        words::role(role);
+        say(b" assigns ");
+        words::role(u32::trailing_zeros(assign));
+        say(b"\n");
+    }
+}
+
 // Rule 3 of a role of the family.
 fn changes(t: &[u32], w: &[u32], role: u32) {
     let k = word(w, CLAIM_TYPE);
@@ -81,6 +93,7 @@ fn brings(t: &[u32], w: &[u32], file: u32) {
 // Whether number n breaks the rule: a role, or for rule 7 a file.
 fn blame(t: &[u32], w: &[u32], rule: u32, n: u32) {
     match rule {
+        2 => assigns(t, w, n),
         3 => changes(t, w, n),
         4 => turns(t, w, n),
         7 => brings(t, w, n),

@@ -1,11 +1,12 @@
 // The claim is checked: accepted as the box is set up, and refused after each careless change, by the rule that the change breaks.
-use crate::administrator::compatible;
+use crate::administrator::add_role;
 use crate::administrator::file_right;
-use crate::administrator::incompatible;
 use crate::administrator::no_file_right;
+use crate::administrator::remove_role;
 use crate::asking::access;
 use crate::asking::enter;
 use crate::asking::execute;
+use crate::asking::user;
 use crate::blame::ask_checker;
 use crate::claim::fill;
 use crate::names::KILOPASCALS;
@@ -14,9 +15,12 @@ use crate::names::PLANNER;
 use crate::names::PLANNER_PROCESS;
 use crate::names::SCHEDULER;
 use crate::names::SCHEDULER_PROGRAM;
+use crate::names::SCHEDULING;
 use crate::names::SERVICE_PROGRAMS;
 use crate::tell::scene;
 use model::layout::CLAIM_LENGTH;
+use model::numbers::ASSIGN_ROLES;
+use model::numbers::COMPATIBLE_ROLES;
 use model::numbers::EXECUTE;
 use model::numbers::WRITE;
 use setpoints::METRES;
@@ -42,20 +46,49 @@ fn careless_write(t: &mut [u32], w: &[u32]) {
 
 fn careless_role(t: &mut [u32], w: &[u32]) {
     scene(b"A careless role.");
-    compatible(
+    add_role(
         t,
         b"A planner may turn into a scheduler",
+        COMPATIBLE_ROLES,
         PLANNER,
         SCHEDULER,
     );
     ask_checker(t, w);
-    incompatible(
+    remove_role(
         t,
         b"The administrator takes that role back",
+        COMPATIBLE_ROLES,
         PLANNER,
         SCHEDULER,
     );
     ask_checker(t, w);
+}
+
+// Rule 26 keeps the helper from users of other roles; a family that may administer is not confined all the same.
+fn careless_helper(t: &mut [u32], w: &[u32]) {
+    scene(b"A helper for the administrator.");
+    add_role(
+        t,
+        b"A planner may assign the role of planner",
+        ASSIGN_ROLES,
+        PLANNER,
+        PLANNER,
+    );
+    user(
+        t,
+        b"The planner's script makes the scheduling user a planner",
+        PLANNER_PROCESS,
+        SCHEDULING,
+        PLANNER,
+    );
+    ask_checker(t, w);
+    remove_role(
+        t,
+        b"The administrator takes that role back",
+        ASSIGN_ROLES,
+        PLANNER,
+        PLANNER,
+    );
 }
 
 fn careless_program(t: &mut [u32], w: &[u32]) {
@@ -105,6 +138,7 @@ pub(crate) fn run(t: &mut [u32]) {
     ask_checker(t, &w);
     careless_write(t, &w);
     careless_role(t, &w);
+    careless_helper(t, &w);
     careless_program(t, &w);
     unasked(t);
 }

@@ -14,7 +14,7 @@ use Rattle.model.specs.declared.Change.{Change}
 use Rattle.model.specs.Numbers.{ASSIGN, CHANGE-OWNER, CLONE, COMPATIBLE-ROLES, CREATE, DEEPEST, DELETE, DIR, EXECUTE, FILE, FILES, FILESYSTEM, IPC, IPCS, MODIFY-ATTRIBUTE, PROCESS, PROCESSES, TYPES, isFirst}
 use Rattle.model.specs.Layout.{DEPTH, FILE-TYPE, KIND, claimLength}
 use Rattle.model.specs.Ranges.{ranged}
-use Rattle.model.specs.Records.{fileWord, freePlace, occupied, processAt}
+use Rattle.model.specs.Records.{fileWord, freePlace, occupied, processAt, userRole}
 use Rattle.model.specs.WellFormed.{wellFormed}
 use Rattle.model.specs.Effective.{typeOf, valueAt}
 use Rattle.model.specs.Calls.{may, ownRole, removable}
@@ -55,11 +55,11 @@ valueTests t c g o v =
 abbrev rightTests : List ℕ → ℕ → ℕ → ℕ → ℕ → ℕ → List Test
 rightTests t c g r k right = 5 ifNot passes t c (may t c g k (rightNeeded right) && mayAdmin t c r) ∷ []
 
--- H6 for a user's role, H9 for default types and the mark, rule 32 and H10 for an object's type
+-- rule 26 for a user's role, H9 for default types and the mark, rule 32 and H10 for an object's type
 abbrev pub changeTests : List ℕ → ℕ → Change → List Test
 changeTests t c (Change.AddRole s r member) = memberTests t c s r member
 changeTests t c (Change.RemoveRole s r member) = memberTests t c s r member
-changeTests t c (Change.SetUserRole u r) = 5 ifNot passes t c (mayAssign t c r) ∷ []
+changeTests t c (Change.SetUserRole u r) = 5 ifNot passes t c (mayAssign t c r && mayAssign t c (userRole t u)) ∷ []
 changeTests t c (Change.SetInitial f v) = valueTests t c FILESYSTEM f v
 changeTests t c (Change.SetForced f v) = valueTests t c FILESYSTEM f v
 changeTests t c (Change.SetProcessForced p v) = valueTests t c PROCESS p v

@@ -1,4 +1,4 @@
-// What process 0 asks, which is Role Admin in fresh tables: every administration call of the trials, and what it makes.
+// What process 0 asks, which is Role Admin in fresh tables: its administration calls, and what it makes.
 use model::Answer;
 use model::Call;
 use model::Change;

@@ -1,5 +1,5 @@
 // What the scope document asks to be run: the marked examples, every table filled to its last place, and each number once; and what change requests
-// brought, where effective values come from, what enters setpoint lists and how many members a role set has.
+// brought, where effective values come from, what enters setpoint lists, how many members a role set has and who moves users.
 // A line tells a trial and what it came to; every group of trials begins with fresh tables.
 use model::layout::ROW_LENGTH;
 
@@ -11,6 +11,7 @@ mod marked;
 mod numbers;
 mod sizes;
 mod tell;
+mod users;
 mod whence;
 
 fn main() {
@@ -20,6 +21,7 @@ fn main() {
     whence::run(&mut t);
     lists::run(&mut t);
     sizes::run(&mut t);
+    users::run(&mut t);
     full::run(&mut t);
     numbers::run(&mut t);
     claim::numbers(&mut t);

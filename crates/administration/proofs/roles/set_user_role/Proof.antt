@@ -7,8 +7,14 @@ use borrow.Author.Needs.{needs}
 use Rattle.administration.proofs.roles.set_user_role.Statement.{statement}
 use Rattle.administration.proofs.roles.set_user_role.Tie as tie
 
+user-role-requires : tie.Need-user-role-requires
+user-role-requires c κs = search needs
+
 may-assign-requires : tie.Need-may-assign-requires
 may-assign-requires c κs = search needs
+
+may-assign-requires-2 : tie.Need-may-assign-requires-2
+may-assign-requires-2 c κs = search needs
 
 passes-requires : tie.Need-passes-requires
 passes-requires c κs = search needs
@@ -27,13 +33,26 @@ same-length c = search needs
 
 returns : tie.Need-returns
 unfolding rulingOn setUserRoleNo setUserRoleRow
-returns c = c .before .before .decide-word .ensures ∙ decides _ _ _ _ _ _ _ (cc) refl (simp (c .before .before .before .user-addr .ensures))
+returns c =
+    c .before .before .decide-word .ensures
+    ∙ decides _ _ _ _ _ _ _
+    (simp (
+      c .before .before .before .before .before .unless .ensures,
+      c .before .before .before .before .before .before .passes .ensures,
+      c .before .before .before .before .before .before .before .before .may-assign2 .ensures,
+      c .before .before .before .before .before .before .before .before .before .before .may-assign .ensures,
+      c .before .before .before .before .before .before .before .before .before .before .before .before .user-role .ensures,
+    ))
+    refl
+    (simp (c .before .before .before .user-addr .ensures))
 
 pub set-user-role-spec : {M : Type 1} → statement M
 set-user-role-spec =
     tie.close
     (tie.spec
+    user-role-requires
     may-assign-requires
+    may-assign-requires-2
     passes-requires
     unless-requires
     user-addr-requires
