@@ -1,5 +1,6 @@
 /* The monitor in a C program: a process is started for a user, a directory gives the programs in it a role, a claim about
-   the process is checked, a careless right breaks that claim, and metres still do not enter a list in kilopascals.
+   the process is checked, a careless right breaks that claim, and metres still do not enter a list in kilopascals. At night
+   a batch of calls takes the right back.
    `make example` at the top of the repository builds and runs it; where the library is installed:
 
    cc examples/embed.c $(pkg-config --cflags --libs rcmonitor) -o embed && ./embed */
@@ -14,17 +15,39 @@
 
 static uint32_t tables[RC_WORDS];
 
+static void tell(uint32_t caller, uint32_t kind, uint32_t right, uint32_t number, uint32_t place)
+{
+    printf("process %" PRIu32 ", %s", caller, rc_kind_text(kind));
+    if (kind == RC_CALL_ADD_RIGHT || kind == RC_CALL_REMOVE_RIGHT)
+        printf(" %s", rc_right_text(right));
+    printf(": %s", rc_number_text(number));
+    if (place)
+        printf(", place %" PRIu32, place);
+    printf("\n");
+}
+
 /* One call, told with its answer. */
 static struct rc_answer ask(uint32_t caller, uint32_t kind, uint32_t a, uint32_t b, uint32_t c, uint32_t d)
 {
     struct rc_answer answer = rc_call(tables, RC_WORDS, kind, caller, a, b, c, d);
-    printf("process %" PRIu32 ", %s", caller, rc_kind_text(kind));
-    if (kind == RC_CALL_ADD_RIGHT)
-        printf(" %s", rc_right_text(d));
-    printf(": %s", rc_number_text(answer.number));
-    if (answer.place)
-        printf(", place %" PRIu32, answer.place);
-    printf("\n");
+    tell(caller, kind, d, answer.number, answer.place);
+    return answer;
+}
+
+/* A night's calls at once, told with their answers: each item is a kind, a caller and numbers, one byte each. */
+static struct rc_answer night(void)
+{
+    static const uint8_t calls[][RC_ITEM_BYTES] = {
+        {RC_CALL_REMOVE_RIGHT, 0, RC_GROUP_FILESYSTEM, ROLE, KILOPASCALS, RC_RIGHT_WRITE},
+        {RC_CALL_DELETE, 0, 1}, /* refused, which does not stop the rest */
+        {RC_CALL_CLONE, 0},
+        {RC_CALL_CHANGE_OWNER, 2, USER}, /* by the new process */
+    };
+    uint8_t answers[sizeof calls / RC_ITEM_BYTES][RC_ANSWER_BYTES];
+    struct rc_answer answer = rc_batch(tables, RC_WORDS, calls[0], sizeof calls, answers[0], sizeof answers);
+    printf("a night of %zu calls: %s\n", sizeof calls / RC_ITEM_BYTES, rc_number_text(answer.number));
+    for (size_t k = 0; answer.number == RC_GRANTED && k < sizeof calls / RC_ITEM_BYTES; k++)
+        tell(calls[k][1], calls[k][0], calls[k][5], answers[k][0], answers[k][1]);
     return answer;
 }
 
@@ -121,6 +144,9 @@ int main(void)
     ask(0, RC_CALL_ADD_RIGHT, RC_GROUP_FILESYSTEM, ROLE, KILOPASCALS, RC_RIGHT_WRITE);
     struct rc_verdict after = check(child);
     struct rc_answer right = enter(child, in_metres, 45000), wrong = enter(child, in_kilopascals, 45000);
+    struct rc_answer at_night = night();
+    struct rc_verdict again = check(child);
     return !(before.number == RC_GRANTED && after.number == RC_CLAIM_BROKEN && right.number == RC_GRANTED &&
-             wrong.number == RC_NO_SUCH_PLACE && rc_well_formed(tables, RC_WORDS));
+             wrong.number == RC_NO_SUCH_PLACE && at_night.number == RC_GRANTED && again.number == RC_GRANTED &&
+             rc_well_formed(tables, RC_WORDS));
 }

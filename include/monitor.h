@@ -6,8 +6,8 @@
    nothing. What you see to is that the words are really there.
 
    At the same time: the library has no state of its own and takes no lock, so calls on different rows never meet. On one
-   row, any number of the functions that take it as const may run together; rc_call and rc_fresh each want it alone, and
-   rc_setpoint the entries that it is lent.
+   row, any number of the functions that take it as const may run together; rc_call, rc_batch and rc_fresh each want it
+   alone, rc_batch also the answers and rc_setpoint the entries that they are lent.
 
    The library is an archive, librcmonitor.a, for programs on x86-64 (System V calling convention); its code may also go
    into a shared object. From outside it needs memset and memcpy. At the top of the repository `make lib` proves and
@@ -110,7 +110,7 @@
 /* ---- The answer to a call ---- the lowest number that applies */
 #define RC_GRANTED 0u
 #define RC_ILL_FORMED 1u    /* the tables are not well formed, or the row or the claim has a wrong length */
-#define RC_OUT_OF_RANGE 2u  /* a number of the call is out of its range, or no entry is lent */
+#define RC_OUT_OF_RANGE 2u  /* a number or a length is out of its range, an item is no call, or no entry is lent */
 #define RC_NOT_LIVE 3u      /* the calling process, or that of a claim or a setpoint, is not live */
 #define RC_NO_SUCH_PLACE 4u /* a named place is free, or of a kind or a type that the call does not take */
 #define RC_NOT_ALLOWED 5u   /* the rules do not allow it */
@@ -151,6 +151,12 @@
 #define RC_DEFAULT_PROCESS_EXECUTE 2u
 #define RC_DEFAULT_PROCESS_CHOWN 3u
 #define RC_DEFAULT_IPC_CREATE 4u
+
+/* ---- Items of a batch ----
+   An item is one call in RC_ITEM_BYTES bytes: the kind, the caller, then the numbers that the kind takes, in the order
+   given above and one byte each, then zeros to its end. Its answer is RC_ANSWER_BYTES bytes: the number, then the place. */
+#define RC_ITEM_BYTES 16u
+#define RC_ANSWER_BYTES 2u
 
 /* ---- The row of a claim ----
    A claim says of a process that it and all that it clones, its family, stay in the roles S and the process types Q, where
@@ -210,6 +216,19 @@ struct rc_verdict {
 struct rc_answer rc_call(uint32_t *tables, size_t words, uint32_t kind, uint32_t caller, uint32_t a, uint32_t b,
                          uint32_t c, uint32_t d);
 
+/* Makes the calls of a night in their order, each on what those before it left: the answers, and the tables afterwards,
+   are those of rc_call for one item after the other, but the tables are tested only once. The answer to item k is
+   answers[RC_ANSWER_BYTES * k], its number, and the byte behind it, its place. A refused item has its number and place 0
+   there, and does not stop the rest; an unknown kind, or a byte that is not zero behind those that the kind takes, is 2.
+   The bytes of `answers` behind those of the last item stay as they were. The batch itself is answered 0, also where there
+   are no items, or else a number below, and then no call is made and no answer written; its place is always 0. Lend tables,
+   calls and answers that lie apart.
+
+   1  The tables are not well formed, whatever the lengths.
+   2  call_bytes is no multiple of RC_ITEM_BYTES, or answer_bytes is fewer than RC_ANSWER_BYTES for each item. */
+struct rc_answer rc_batch(uint32_t *tables, size_t words, const uint8_t *calls, size_t call_bytes, uint8_t *answers,
+                          size_t answer_bytes);
+
 /* Writes fresh tables over whatever the row holds; asks only that it has RC_WORDS words. */
 struct rc_answer rc_fresh(uint32_t *tables, size_t words);
 
@@ -253,13 +272,13 @@ struct rc_answer rc_setpoint(const uint32_t *tables, size_t words, uint32_t proc
 
 /* ---- In words ---- short texts for a log or a person; a number that is none of its kind has the text "unknown" */
 
-/* What a call, a query, a claim or a setpoint was answered, RC_GRANTED to RC_CLAIM_BROKEN. */
+/* What a call, a batch, an item of one, a query, a claim or a setpoint was answered, RC_GRANTED to RC_CLAIM_BROKEN. */
 static inline const char *rc_number_text(uint32_t number)
 {
     switch (number) {
     case RC_GRANTED: return "granted";
     case RC_ILL_FORMED: return "the tables are not well formed, or a row has a wrong length";
-    case RC_OUT_OF_RANGE: return "a number is out of its range";
+    case RC_OUT_OF_RANGE: return "a number or a length is out of its range";
     case RC_NOT_LIVE: return "the process is not live";
     case RC_NO_SUCH_PLACE: return "a named place is free, or of the wrong kind or type";
     case RC_NOT_ALLOWED: return "the rules do not allow it";

@@ -1,9 +1,11 @@
 /* bench ITEM WHO TIMES: does one piece of work so many times, by the library, by the plain version, by the good one, or
    by one of the two without its test of the tables. Who counts its instructions takes the difference of two runs.
-   bench same: whether the good version answers as the plain one does, on many rows and claims.
-   bench: prints the items, each with the number of its calls, one to a line. */
+   bench same: whether the good version answers as the plain one does, on many rows, claims and nights.
+   bench: prints the items, one to a line, each with the number of its tests of the tables, and into how many units its cost
+   is divided. */
 #include "../plain/monitor.h"
 #include "good.h"
+#include "night.h"
 #include "same.h"
 #include "tables.h"
 #include <stdio.h>
@@ -15,7 +17,8 @@ enum who { LIBRARY, PLAIN, PLAIN_BARE, GOOD, GOOD_BARE };
 static const char *const names[] = {"library", "plain", "plain-bare", "good", "good-bare"};
 
 static uint32_t row[RC_WORDS], claim[RC_CLAIM_WORDS], entry;
-static uint32_t refused; /* stays 0: every call of the benchmark is granted */
+static uint8_t calls[NIGHT_CALL_BYTES], answers[NIGHT_ANSWER_BYTES];
+static uint32_t refused; /* stays 0: all goes as it is meant to */
 
 /* The calls of each of them; not inlined, so that all pay the same for the way there. */
 __attribute__((noinline)) static void call(enum who who, uint32_t kind, uint32_t caller, uint32_t a, uint32_t b,
@@ -76,6 +79,19 @@ __attribute__((noinline)) static void setpoint(enum who who)
     }
 }
 
+#define NIGHT calls, NIGHT_CALL_BYTES, answers, NIGHT_ANSWER_BYTES
+
+__attribute__((noinline)) static void night(enum who who)
+{
+    switch (who) {
+    case LIBRARY: refused |= rc_batch(row, RC_WORDS, NIGHT).number; break;
+    case PLAIN: refused |= plain_batch(row, RC_WORDS, NIGHT).number; break;
+    case PLAIN_BARE: plain_night(row, calls, NIGHT_ITEMS, answers); break;
+    case GOOD: refused |= good_batch(row, RC_WORDS, NIGHT).number; break;
+    case GOOD_BARE: good_night(row, calls, NIGHT_ITEMS, answers); break;
+    }
+}
+
 static void access_file(enum who who)
 {
     call(who, RC_CALL_ACCESS, CALLER, RC_GROUP_FILESYSTEM, PROGRAM, RC_RIGHT_READ);
@@ -104,22 +120,52 @@ static void create_delete(enum who who)
     call(who, RC_CALL_DELETE, CALLER, LAST_FILE, 0, 0);
 }
 
+/* ---- What the items are made on ---- */
+
+static void busy(void)
+{
+    busy_tables(row);
+}
+
+static void dense(void)
+{
+    dense_claim(row, claim);
+}
+
+static void sparse(void)
+{
+    sparse_claim(row, claim);
+}
+
+static void before_the_night(void)
+{
+    night_tables(row);
+    night_calls(calls);
+}
+
+static void after_the_night(void)
+{
+    refused |= !night_went_well(row, answers);
+}
+
 static const struct {
     const char *name, *what;
-    int calls;
+    uint32_t tests, units;
     void (*work)(enum who);
-    void (*tables)(uint32_t *, uint32_t *);
+    void (*before)(void);
+    void (*after)(void);
 } items[] = {
-    {"well-formed", "well formed", 1, well_formed, NULL},
-    {"access", "access", 1, access_file, NULL},
-    {"clone-exit", "clone and exit (2 calls)", 2, clone_exit, NULL},
-    {"execute", "execute", 1, execute, NULL},
-    {"owner-role", "owner and role (2 calls)", 2, owner_role, NULL},
-    {"create-delete", "create, delete (2 calls)", 2, create_delete, NULL},
-    {"climb", "effective type, depth 15", 1, climb, NULL},
-    {"claim-dense", "claim accepted, dense", 1, check_claim, dense_claim},
-    {"claim-sparse", "claim accepted, sparse", 1, check_claim, sparse_claim},
-    {"setpoint", "setpoint in metres", 1, setpoint, NULL},
+    {"well-formed", "well formed", 1, 1, well_formed, busy, NULL},
+    {"access", "access", 1, 1, access_file, busy, NULL},
+    {"clone-exit", "clone and exit (2 calls)", 2, 1, clone_exit, busy, NULL},
+    {"execute", "execute", 1, 1, execute, busy, NULL},
+    {"owner-role", "owner and role (2 calls)", 2, 1, owner_role, busy, NULL},
+    {"create-delete", "create, delete (2 calls)", 2, 1, create_delete, busy, NULL},
+    {"climb", "effective type, depth 15", 1, 1, climb, busy, NULL},
+    {"claim-dense", "claim accepted, dense", 1, 1, check_claim, dense, NULL},
+    {"claim-sparse", "claim accepted, sparse", 1, 1, check_claim, sparse, NULL},
+    {"setpoint", "setpoint in metres", 1, 1, setpoint, busy, NULL},
+    {"night", "mixed night, for each call", 1, NIGHT_ITEMS, night, before_the_night, after_the_night},
 };
 
 #define ITEMS (sizeof items / sizeof items[0])
@@ -139,7 +185,7 @@ int main(int argc, char **argv)
         return good_is_same() ? 0 : 1;
     if (argc != 4) {
         for (size_t i = 0; i < ITEMS; i++)
-            printf("%s %d %s\n", items[i].name, items[i].calls, items[i].what);
+            printf("%s %u %u %s\n", items[i].name, items[i].tests, items[i].units, items[i].what);
         return 0;
     }
     size_t i = 0, who = named(argv[2], names, sizeof names / sizeof names[0]);
@@ -149,14 +195,13 @@ int main(int argc, char **argv)
         fprintf(stderr, "bench: no item %s, or nobody %s\n", argv[1], argv[2]);
         return 2;
     }
-    if (items[i].tables)
-        items[i].tables(row, claim);
-    else
-        busy_tables(row);
+    items[i].before();
     for (long times = atol(argv[3]); times > 0; times--)
         items[i].work((enum who)who);
+    if (items[i].after)
+        items[i].after();
     if (refused == 0)
         return 0;
-    fprintf(stderr, "bench: a call of %s was refused\n", argv[1]);
+    fprintf(stderr, "bench: a call of %s was not answered as it should be\n", argv[1]);
     return 1;
 }

@@ -2,6 +2,7 @@
    the likely test first, loops that gcc -O2 turns into vectors, effective values of all files in one walk. */
 #include "good.h"
 #include "../plain/tables.h"
+#include <string.h>
 
 #define BIT(n) (UINT32_C(1) << (n))
 
@@ -77,12 +78,17 @@ bool good_well_formed(const uint32_t *tables, size_t words)
     return words == RC_WORDS && processes_ok(t) && users_ok(t) && roles_ok(t) && ipcs_ok(t) && files_ok(t);
 }
 
-/* ---- Calls ---- */
+/* ---- Process calls ---- each tests the ranges of its numbers, and who calls it that those not taken are zero */
+
+static const uint32_t places[RC_GROUPS] = {RC_FILES, RC_PROCESSES, RC_IPCS};
 
 static struct rc_answer answer(uint32_t number, uint32_t place)
 {
     return (struct rc_answer){number, place};
 }
+
+/* What a call does is not inlined: the way to it then saves no registers for the longest of them. */
+#define BODY __attribute__((noinline)) static struct rc_answer
 
 /* What a process of that role needs of an object of a group, where the object is known to be in range. */
 static uint32_t access_number(const struct tables *t, uint32_t role, uint32_t group, uint32_t object, uint32_t right)
@@ -101,16 +107,14 @@ static uint32_t access_number(const struct tables *t, uint32_t role, uint32_t gr
     return live == 0 ? RC_NO_SUCH_PLACE : has_right(t, group, role, type, right) ? RC_GRANTED : RC_NOT_ALLOWED;
 }
 
-static struct rc_answer access_object(const struct tables *t, uint32_t role, uint32_t group, uint32_t object,
-                                      uint32_t right)
+BODY access_object(const struct tables *t, uint32_t role, uint32_t group, uint32_t object, uint32_t right)
 {
-    static const uint32_t places[] = {RC_FILES, RC_PROCESSES, RC_IPCS};
     if (group >= RC_GROUPS || object >= places[group] || right >= RC_RIGHT_ADMIN)
         return answer(RC_OUT_OF_RANGE, 0);
     return answer(access_number(t, role, group, object, right), 0);
 }
 
-static struct rc_answer clone_process(struct tables *t, const struct process *p)
+BODY clone_process(struct tables *t, const struct process *p)
 {
     if (!has_right(t, RC_GROUP_PROCESS, p->role, p->type, RC_RIGHT_CLONE))
         return answer(RC_NOT_ALLOWED, 0);
@@ -128,8 +132,18 @@ static struct rc_answer clone_process(struct tables *t, const struct process *p)
     return answer(RC_GRANTED, place);
 }
 
-static struct rc_answer execute_file(struct tables *t, struct process *p, uint32_t file)
+BODY exit_process(struct process *p, uint32_t caller)
 {
+    if (caller == 0)
+        return answer(RC_NOT_REMOVABLE, 0);
+    *p = (struct process){0};
+    return answer(RC_GRANTED, 0);
+}
+
+BODY execute_file(struct tables *t, struct process *p, uint32_t file)
+{
+    if (file >= RC_FILES)
+        return answer(RC_OUT_OF_RANGE, 0);
     if (t->file[file].kind != RC_FILE)
         return answer(RC_NO_SUCH_PLACE, 0);
     const struct role *own = &t->role[p->role];
@@ -149,8 +163,10 @@ static struct rc_answer execute_file(struct tables *t, struct process *p, uint32
     return answer(RC_GRANTED, 0);
 }
 
-static struct rc_answer change_owner(struct tables *t, struct process *p, uint32_t user)
+BODY change_owner(struct tables *t, struct process *p, uint32_t user)
 {
+    if (user >= RC_USERS)
+        return answer(RC_OUT_OF_RANGE, 0);
     if (!has_right(t, RC_GROUP_PROCESS, p->role, p->type, RC_RIGHT_CHANGE_OWNER))
         return answer(RC_NOT_ALLOWED, 0);
     uint32_t type = t->role[p->role].process_chown;
@@ -166,8 +182,20 @@ static struct rc_answer change_owner(struct tables *t, struct process *p, uint32
     return answer(RC_GRANTED, 0);
 }
 
-static struct rc_answer create_file(struct tables *t, const struct process *p, uint32_t kind, uint32_t parent)
+BODY change_role(const struct tables *t, struct process *p, uint32_t role)
 {
+    if (role >= RC_ROLES)
+        return answer(RC_OUT_OF_RANGE, 0);
+    if (!contains(t->role[p->role].compatible, role))
+        return answer(RC_NOT_ALLOWED, 0);
+    p->role = role;
+    return answer(RC_GRANTED, 0);
+}
+
+BODY create_file(struct tables *t, const struct process *p, uint32_t kind, uint32_t parent)
+{
+    if (kind - RC_FILE > RC_DIR - RC_FILE || parent >= RC_FILES)
+        return answer(RC_OUT_OF_RANGE, 0);
     const struct file *dir = &t->file[parent];
     if (dir->kind != RC_DIR)
         return answer(RC_NO_SUCH_PLACE, 0);
@@ -197,8 +225,10 @@ static bool has_children(const struct tables *t, uint32_t dir)
     return false;
 }
 
-static struct rc_answer delete_file(struct tables *t, const struct process *p, uint32_t file)
+BODY delete_file(struct tables *t, const struct process *p, uint32_t file)
 {
+    if (file >= RC_FILES)
+        return answer(RC_OUT_OF_RANGE, 0);
     struct file *f = &t->file[file];
     if (f->kind == RC_FREE)
         return answer(RC_NO_SUCH_PLACE, 0);
@@ -210,49 +240,207 @@ static struct rc_answer delete_file(struct tables *t, const struct process *p, u
     return answer(RC_GRANTED, 0);
 }
 
-/* The measured kinds; what is not measured is left to the plain version. */
+BODY create_ipc(struct tables *t, const struct process *p)
+{
+    uint32_t type = t->role[p->role].ipc_create;
+    if (!has_right(t, RC_GROUP_IPC, p->role, type, RC_RIGHT_CREATE))
+        return answer(RC_NOT_ALLOWED, 0);
+    uint32_t place = 0;
+#pragma GCC unroll 4
+    for (; place < RC_IPCS; place++)
+        if (!t->ipc[place].live)
+            break;
+    if (place == RC_IPCS)
+        return answer(RC_FULL, 0);
+    t->ipc[place] = (struct ipc){1, type};
+    return answer(RC_GRANTED, place);
+}
+
+BODY delete_ipc(struct tables *t, const struct process *p, uint32_t object)
+{
+    if (object >= RC_IPCS)
+        return answer(RC_OUT_OF_RANGE, 0);
+    struct ipc *i = &t->ipc[object];
+    if (!i->live)
+        return answer(RC_NO_SUCH_PLACE, 0);
+    if (!has_right(t, RC_GROUP_IPC, p->role, i->type, RC_RIGHT_DELETE))
+        return answer(RC_NOT_ALLOWED, 0);
+    *i = (struct ipc){0};
+    return answer(RC_GRANTED, 0);
+}
+
+/* ---- Administration calls ---- the Role Admin mark is tested first, since it ends all other tests */
+
+/* A set of roles is one word of its role, as is a default type. */
+static uint32_t *role_word(struct tables *t, uint32_t role, uint32_t word)
+{
+    return (uint32_t *)&t->role[role] + word;
+}
+
+static void put_bit(uint32_t *set, uint32_t bit, bool add)
+{
+    *set = add ? *set | BIT(bit) : *set & ~BIT(bit);
+}
+
+BODY change_set(struct tables *t, const struct process *p, uint32_t set, uint32_t role, uint32_t member, bool add)
+{
+    if (set > RC_SET_ASSIGN || (role | member) >= 32)
+        return answer(RC_OUT_OF_RANGE, 0);
+    const struct role *own = &t->role[p->role];
+    if (!own->mark && (set != RC_SET_COMPATIBLE || !contains(own->assign, member) || !contains(own->admin, role)))
+        return answer(RC_NOT_ALLOWED, 0);
+    put_bit(role_word(t, role, RC_ROLE_COMPATIBLE + set), member, add);
+    return answer(RC_GRANTED, 0);
+}
+
+BODY set_user_role(struct tables *t, const struct process *p, uint32_t user, uint32_t role)
+{
+    if ((user | role) >= 32)
+        return answer(RC_OUT_OF_RANGE, 0);
+    const struct role *own = &t->role[p->role];
+    if (!own->mark && (~own->assign & (BIT(role) | BIT(t->user_role[user]))) != 0)
+        return answer(RC_NOT_ALLOWED, 0);
+    t->user_role[user] = role;
+    return answer(RC_GRANTED, 0);
+}
+
+/* The initial or the forced value. */
+BODY set_file_role(struct tables *t, const struct process *p, uint32_t file, uint32_t value, enum inherited which)
+{
+    if (file >= RC_FILES || !(which == INITIAL ? is_initial(value) : is_forced(value)))
+        return answer(RC_OUT_OF_RANGE, 0);
+    struct file *f = &t->file[file];
+    const struct role *own = &t->role[p->role];
+    if (f->kind == RC_FREE)
+        return answer(RC_NO_SUCH_PLACE, 0);
+    if (!own->mark && (!contains(own->assign, value) ||
+                       !has_right(t, RC_GROUP_FILESYSTEM, p->role, effective(t, file, TYPE), RC_RIGHT_MODIFY_ATTRIBUTE)))
+        return answer(RC_NOT_ALLOWED, 0);
+    *(which == INITIAL ? &f->initial : &f->forced) = value;
+    return answer(RC_GRANTED, 0);
+}
+
+BODY set_process_forced(struct tables *t, const struct process *p, uint32_t process, uint32_t value)
+{
+    if (process >= RC_PROCESSES || !is_process_forced(value))
+        return answer(RC_OUT_OF_RANGE, 0);
+    struct process *q = &t->process[process];
+    const struct role *own = &t->role[p->role];
+    if (!q->live)
+        return answer(RC_NO_SUCH_PLACE, 0);
+    if (!own->mark && (!contains(own->assign, value) ||
+                       !has_right(t, RC_GROUP_PROCESS, p->role, q->type, RC_RIGHT_MODIFY_ATTRIBUTE)))
+        return answer(RC_NOT_ALLOWED, 0);
+    q->forced = value;
+    return answer(RC_GRANTED, 0);
+}
+
+BODY set_default_type(struct tables *t, const struct process *p, uint32_t which, uint32_t role, uint32_t value)
+{
+    static const uint32_t most[] = {RC_INHERIT_PARENT, RC_INHERIT_PARENT, RC_INHERIT_PARENT, RC_USE_NEW_ROLE_DEF_CREATE,
+                                    RC_TYPES - 1};
+    if (which > RC_DEFAULT_IPC_CREATE || role >= RC_ROLES || value > most[which])
+        return answer(RC_OUT_OF_RANGE, 0);
+    if (!t->role[p->role].mark)
+        return answer(RC_NOT_ALLOWED, 0);
+    *role_word(t, role, RC_ROLE_FILE_CREATE + which) = value;
+    return answer(RC_GRANTED, 0);
+}
+
+BODY set_role_admin(struct tables *t, const struct process *p, uint32_t role, uint32_t mark)
+{
+    if (role >= RC_ROLES || mark > 1)
+        return answer(RC_OUT_OF_RANGE, 0);
+    if (!t->role[p->role].mark)
+        return answer(RC_NOT_ALLOWED, 0);
+    t->role[role].mark = mark;
+    return answer(RC_GRANTED, 0);
+}
+
+static bool may_set_type(const struct tables *t, uint32_t role, uint32_t group, uint32_t object, uint32_t before,
+                         uint32_t value)
+{
+    const uint32_t *rights = t->rights[group][role];
+    if (group == RC_GROUP_FILESYSTEM) {
+        before = effective(t, object, TYPE);
+        if (value == RC_INHERIT_PARENT)
+            value = object == ROOT ? 0 : effective(t, t->file[object].parent, TYPE);
+    }
+    return (rights[value] >> RC_RIGHT_ASSIGN & rights[before] >> RC_RIGHT_MODIFY_ATTRIBUTE & 1) != 0;
+}
+
+BODY set_type(struct tables *t, const struct process *p, uint32_t group, uint32_t object, uint32_t value)
+{
+    if (group >= RC_GROUPS || object >= places[group] || value > RC_TYPES - (group != RC_GROUP_FILESYSTEM))
+        return answer(RC_OUT_OF_RANGE, 0);
+    uint32_t live, *type;
+    if (group == RC_GROUP_FILESYSTEM)
+        live = t->file[object].kind, type = &t->file[object].type;
+    else if (group == RC_GROUP_PROCESS)
+        live = t->process[object].live, type = &t->process[object].type;
+    else
+        live = t->ipc[object].live, type = &t->ipc[object].type;
+    if (live == 0)
+        return answer(RC_NO_SUCH_PLACE, 0);
+    if (!t->role[p->role].mark && !may_set_type(t, p->role, group, object, *type, value))
+        return answer(RC_NOT_ALLOWED, 0);
+    *type = value;
+    return answer(RC_GRANTED, 0);
+}
+
+BODY change_right(struct tables *t, const struct process *p, uint32_t group, uint32_t role, uint32_t type,
+                  uint32_t right, bool add)
+{
+    if (group >= RC_GROUPS || (role | type | right) >= 32)
+        return answer(RC_OUT_OF_RANGE, 0);
+    const struct role *own = &t->role[p->role];
+    uint32_t needed = right < RC_RIGHT_ADMIN ? RC_RIGHT_ACCESS_CONTROL : RC_RIGHT_SUPERVISOR;
+    if (!own->mark && (!has_right(t, group, p->role, type, needed) || !contains(own->admin, role)))
+        return answer(RC_NOT_ALLOWED, 0);
+    put_bit(&t->rights[group][role][type], right, add);
+    return answer(RC_GRANTED, 0);
+}
+
+/* ---- One call, and a night of them ---- */
+
+/* Whether a caller that is not there is 2 or 3 is left to the plain version. */
+__attribute__((always_inline)) static inline struct rc_answer act(struct tables *t, uint32_t kind, uint32_t caller,
+                                                                  uint32_t a, uint32_t b, uint32_t c, uint32_t d)
+{
+    const struct rc_answer out = {RC_OUT_OF_RANGE, 0};
+    if (caller >= RC_PROCESSES || !t->process[caller].live)
+        return plain_act((uint32_t *)t, kind, caller, a, b, c, d);
+    struct process *p = &t->process[caller];
+    switch (kind) {
+    case RC_CALL_ACCESS: return d ? out : access_object(t, p->role, a, b, c);
+    case RC_CALL_CLONE: return a | b | c | d ? out : clone_process(t, p);
+    case RC_CALL_EXIT: return a | b | c | d ? out : exit_process(p, caller);
+    case RC_CALL_EXECUTE: return b | c | d ? out : execute_file(t, p, a);
+    case RC_CALL_CHANGE_OWNER: return b | c | d ? out : change_owner(t, p, a);
+    case RC_CALL_CHANGE_ROLE: return b | c | d ? out : change_role(t, p, a);
+    case RC_CALL_CREATE: return c | d ? out : create_file(t, p, a, b);
+    case RC_CALL_DELETE: return b | c | d ? out : delete_file(t, p, a);
+    case RC_CALL_CREATE_IPC: return a | b | c | d ? out : create_ipc(t, p);
+    case RC_CALL_DELETE_IPC: return b | c | d ? out : delete_ipc(t, p, a);
+    case RC_CALL_ADD_ROLE: return d ? out : change_set(t, p, a, b, c, true);
+    case RC_CALL_REMOVE_ROLE: return d ? out : change_set(t, p, a, b, c, false);
+    case RC_CALL_SET_USER_ROLE: return c | d ? out : set_user_role(t, p, a, b);
+    case RC_CALL_SET_INITIAL: return c | d ? out : set_file_role(t, p, a, b, INITIAL);
+    case RC_CALL_SET_FORCED: return c | d ? out : set_file_role(t, p, a, b, FORCED);
+    case RC_CALL_SET_PROCESS_FORCED: return c | d ? out : set_process_forced(t, p, a, b);
+    case RC_CALL_SET_DEFAULT_TYPE: return d ? out : set_default_type(t, p, a, b, c);
+    case RC_CALL_SET_ROLE_ADMIN: return c | d ? out : set_role_admin(t, p, a, b);
+    case RC_CALL_SET_TYPE: return d ? out : set_type(t, p, a, b, c);
+    case RC_CALL_ADD_RIGHT: return change_right(t, p, a, b, c, d, true);
+    case RC_CALL_REMOVE_RIGHT: return change_right(t, p, a, b, c, d, false);
+    default: return out;
+    }
+}
+
 struct rc_answer good_act(uint32_t *tables, uint32_t kind, uint32_t caller, uint32_t a, uint32_t b, uint32_t c,
                           uint32_t d)
 {
-    struct tables *t = (struct tables *)tables;
-    if (caller >= RC_PROCESSES || !t->process[caller].live || d != 0)
-        return plain_act(tables, kind, caller, a, b, c, d);
-    struct process *p = &t->process[caller];
-    switch (kind) {
-    case RC_CALL_ACCESS: return access_object(t, p->role, a, b, c);
-    case RC_CALL_CLONE:
-        if ((a | b | c) != 0)
-            break;
-        return clone_process(t, p);
-    case RC_CALL_EXIT:
-        if ((a | b | c) != 0 || caller == 0)
-            break;
-        *p = (struct process){0};
-        return answer(RC_GRANTED, 0);
-    case RC_CALL_EXECUTE:
-        if (a >= RC_FILES || (b | c) != 0)
-            break;
-        return execute_file(t, p, a);
-    case RC_CALL_CHANGE_OWNER:
-        if (a >= RC_USERS || (b | c) != 0)
-            break;
-        return change_owner(t, p, a);
-    case RC_CALL_CHANGE_ROLE:
-        if (a >= RC_ROLES || (b | c) != 0 || !contains(t->role[p->role].compatible, a))
-            break;
-        p->role = a;
-        return answer(RC_GRANTED, 0);
-    case RC_CALL_CREATE:
-        if (a - RC_FILE > RC_DIR - RC_FILE || b >= RC_FILES || c != 0)
-            break;
-        return create_file(t, p, a, b);
-    case RC_CALL_DELETE:
-        if (a >= RC_FILES || (b | c) != 0)
-            break;
-        return delete_file(t, p, a);
-    default: break;
-    }
-    return plain_act(tables, kind, caller, a, b, c, d);
+    return act((struct tables *)tables, kind, caller, a, b, c, d);
 }
 
 struct rc_answer good_call(uint32_t *tables, size_t words, uint32_t kind, uint32_t caller, uint32_t a, uint32_t b,
@@ -261,6 +449,31 @@ struct rc_answer good_call(uint32_t *tables, size_t words, uint32_t kind, uint32
     if (!good_well_formed(tables, words))
         return answer(RC_ILL_FORMED, 0);
     return good_act(tables, kind, caller, a, b, c, d);
+}
+
+/* The filler is tested as two words; the first has bytes 0 to 7, the lowest first. */
+void good_night(uint32_t *tables, const uint8_t *calls, size_t items, uint8_t *answers)
+{
+    for (const uint8_t *item = calls; item < calls + RC_ITEM_BYTES * items; item += RC_ITEM_BYTES) {
+        uint64_t halves[2];
+        memcpy(halves, item, RC_ITEM_BYTES);
+        struct rc_answer made = {RC_OUT_OF_RANGE, 0};
+        if ((halves[0] >> 48 | halves[1]) == 0)
+            made = act((struct tables *)tables, item[0], item[1], item[2], item[3], item[4], item[5]);
+        *answers++ = (uint8_t)made.number;
+        *answers++ = (uint8_t)made.place;
+    }
+}
+
+struct rc_answer good_batch(uint32_t *tables, size_t words, const uint8_t *calls, size_t call_bytes, uint8_t *answers,
+                            size_t answer_bytes)
+{
+    if (!good_well_formed(tables, words))
+        return answer(RC_ILL_FORMED, 0);
+    if (call_bytes % RC_ITEM_BYTES != 0 || answer_bytes < call_bytes / RC_ITEM_BYTES * RC_ANSWER_BYTES)
+        return answer(RC_OUT_OF_RANGE, 0);
+    good_night(tables, calls, call_bytes / RC_ITEM_BYTES, answers);
+    return answer(RC_GRANTED, 0);
 }
 
 /* ---- Effective values ---- */

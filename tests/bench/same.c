@@ -1,11 +1,17 @@
 /* Each word of each benchmark's row, and of its claim, is set to numbers around every limit in turn; whatever the row then
-   is, well formed or not, both versions must answer alike, and leave the same tables behind. */
+   is, well formed or not, both versions must answer alike, and leave the same tables behind. So they must on random nights
+   of calls of every kind. */
 #include "same.h"
+#include "../compare/calls.h"
+#include "../compare/random.h"
+#include "../compare/rows.h"
 #include "../plain/monitor.h"
 #include "good.h"
 #include "tables.h"
 #include <stdio.h>
 #include <string.h>
+
+uint64_t random_state;
 
 static uint32_t row[RC_WORDS], other[RC_WORDS], claim[RC_CLAIM_WORDS];
 
@@ -97,8 +103,33 @@ static bool same_around(uint32_t *words, size_t from, size_t to, size_t step)
     return true;
 }
 
+/* One night by each on random tables: some bytes are any, some lengths are wrong. */
+static bool same_night(uint64_t seed)
+{
+    uint8_t calls[RC_ITEM_BYTES * 50], from_plain[RC_ANSWER_BYTES * 50] = {0}, from_good[RC_ANSWER_BYTES * 50] = {0};
+    random_state = seed;
+    random_row(row, percent(50) ? DENSE : HALF, (enum density)below(DENSITIES));
+    memcpy(other, row, sizeof row);
+    for (uint8_t *item = calls; item < calls + sizeof calls; item += RC_ITEM_BYTES)
+        put_item(item, some_call(row, random_kind()));
+    for (uint32_t damaged = below(10); damaged > 0; damaged--)
+        calls[below(sizeof calls)] = (uint8_t)below(256);
+    size_t call_bytes = sizeof calls - (percent(90) ? 0 : below(40));
+    size_t answer_bytes = sizeof from_plain - (percent(90) ? 0 : below(4));
+    struct rc_answer plain = plain_batch(row, RC_WORDS, calls, call_bytes, from_plain, answer_bytes);
+    struct rc_answer good = good_batch(other, RC_WORDS, calls, call_bytes, from_good, answer_bytes);
+    bool same = plain.number == good.number && plain.place == good.place && memcmp(row, other, sizeof row) == 0 &&
+                memcmp(from_plain, from_good, sizeof from_plain) == 0;
+    if (!same)
+        fprintf(stderr, "bench: good and plain differ in the night of seed %u\n", (unsigned)seed);
+    return same;
+}
+
 bool good_is_same(void)
 {
+    for (uint64_t seed = 0; seed < 2000; seed++)
+        if (!same_night(seed))
+            return false;
     static void (*const made[])(uint32_t *, uint32_t *) = {dense_claim, sparse_claim};
     for (size_t i = 0; i < sizeof made / sizeof made[0]; i++) {
         made[i](row, claim);

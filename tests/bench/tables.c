@@ -12,7 +12,7 @@ static void put_file(uint32_t *row, uint32_t place, uint32_t kind, uint32_t pare
     f[RC_FILE_TYPE] = f[RC_FILE_INITIAL] = f[RC_FILE_FORCED] = RC_INHERIT_PARENT;
 }
 
-static void put_rights(uint32_t *row, uint32_t role, uint32_t rights)
+void put_rights(uint32_t *row, uint32_t role, uint32_t rights)
 {
     for (uint32_t group = 0; group < RC_GROUPS; group++)
         for (uint32_t type = 0; type < RC_TYPES; type++)

@@ -11,6 +11,9 @@
 #define FOLDER 17u      /* a DIR at depth 2 */
 #define DEEP 15u        /* at depth 15, all values inherited from the root */
 
+/* Gives a role these rights to every type of every group. */
+void put_rights(uint32_t *row, uint32_t role, uint32_t rights);
+
 /* A busy machine: one place free in each table. */
 void busy_tables(uint32_t row[RC_WORDS]);
 

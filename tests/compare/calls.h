@@ -4,22 +4,29 @@
 
 #include <stdint.h>
 
-/* Makes one random call of this kind on both rows; kind 0 stands for any unknown kind. */
-void random_call(uint32_t kind);
+struct call {
+    uint32_t kind, caller, a, b, c, d;
+};
+
+/* One of this kind, chosen by what the row holds; kind 0 stands for any unknown kind. */
+struct call some_call(const uint32_t *row, uint32_t kind);
+
+/* The call as an item of a batch; of a number that is more than a byte the lowest bits are taken. */
+void put_item(uint8_t *item, struct call made);
 
 /* A kind, those that empty the tables less often than the others. */
 uint32_t random_kind(void);
 
-/* The queries at every place, and at numbers that are no place. */
-void all_queries(void);
-
 /* Mostly below the limit; else just past it, or far past it, or one that looks small to who drops the high bits. */
 uint32_t number(uint32_t limit);
 
+/* A number that some call may take for a smaller one. */
+uint32_t huge(void);
+
 /* Mostly a live one. */
-uint32_t some_process(void);
+uint32_t some_process(const uint32_t *row);
 
 /* Mostly one of this kind, where there is one. */
-uint32_t some_file_of(uint32_t kind);
+uint32_t some_file_of(const uint32_t *row, uint32_t kind);
 
 #endif

@@ -1,8 +1,10 @@
 /* Compares the proved library with the plain version, which was written from the documents: on the marked
    examples by hand, then on many random tables and calls from fixed seeds, then on every amount of head. After every call
-   all words and the answer must be the same, and every answer that a kind of call can give must have come.
+   all words and the answer must be the same, and every answer that a kind of call can give must have come. Nights of calls
+   are made as batches and one by one.
    compare          everything; the last line is "compare: ok", and the status 0, exactly when all is well
    compare SCALE    the same, with so many times the random cases */
+#include "batch.h"
 #include "calls.h"
 #include "claims.h"
 #include "marked.h"
@@ -17,6 +19,21 @@
 uint64_t random_state;
 
 static uint32_t row[RC_WORDS];
+
+/* Makes one random call of this kind on both rows. */
+static void random_call(uint32_t kind)
+{
+    struct call made = some_call(twin_row(), kind);
+    twin_call(made.kind, made.caller, made.a, made.b, made.c, made.d);
+}
+
+/* The queries at every place, and at numbers that are no place. */
+static void all_queries(void)
+{
+    for (uint32_t file = 0; file <= RC_FILES + 1; file++)
+        twin_queries(file);
+    twin_queries(huge());
+}
 
 static void fresh_tables(void)
 {
@@ -69,7 +86,9 @@ static void single_calls(void)
 static void ask_everything(void)
 {
     static const uint32_t claim[RC_CLAIM_WORDS] = {0};
+    static struct batch no_items;
     twin_well_formed();
+    twin_batch(&no_items);
     twin_queries(below(RC_FILES + 2));
     twin_claim(claim, RC_CLAIM_WORDS);
     random_setpoint();
@@ -143,6 +162,7 @@ static const struct {
     {"wrong lengths", wrong_lengths, 100},
     {"claims", claim_case, 300},
     {"setpoints", setpoint_case, 200},
+    {"nights", night_case, 600},
 };
 
 #define PARTS (sizeof parts / sizeof parts[0])
@@ -169,7 +189,7 @@ int main(int argc, char **argv)
 {
     uint64_t scale = argc > 1 ? strtoull(argv[1], NULL, 10) : 1;
     bool ok = marked_examples();
-    printf("marked examples, readings, full tables, setpoints: %s\n",
+    printf("marked examples, readings, full tables, setpoints, a night: %s\n",
            ok ? "as the documents say" : "NOT as the documents say");
     for (size_t i = 0; i < PARTS; i++)
         printf("%s: seeds %" PRIu64 " to %" PRIu64 "\n", parts[i].name, first_seed(i),
@@ -181,6 +201,7 @@ int main(int argc, char **argv)
             run_round(i, round);
     all_roundings();
     ok &= setpoint_report();
+    ok &= night_report();
     ok &= twin_report();
     printf("compare: %s\n", ok ? "ok" : "FAILED");
     return ok ? 0 : 1;

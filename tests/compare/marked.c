@@ -10,6 +10,7 @@
 static const struct monitor {
     const char *name;
     struct rc_answer (*call)(uint32_t *, size_t, uint32_t, uint32_t, uint32_t, uint32_t, uint32_t, uint32_t);
+    struct rc_answer (*batch)(uint32_t *, size_t, const uint8_t *, size_t, uint8_t *, size_t);
     struct rc_answer (*fresh)(uint32_t *, size_t);
     bool (*well_formed)(const uint32_t *, size_t);
     struct rc_found (*type)(const uint32_t *, size_t, uint32_t);
@@ -20,9 +21,9 @@ static const struct monitor {
     struct rc_answer (*setpoint)(const uint32_t *, size_t, uint32_t, uint32_t, uint32_t, uint32_t, uint32_t, uint32_t,
                                  uint32_t *, size_t);
 } monitors[] = {
-    {"library", rc_call, rc_fresh, rc_well_formed, rc_effective_type, rc_effective_initial, rc_effective_forced,
-     rc_file_kind, rc_check_claim, rc_setpoint},
-    {"plain C", plain_call, plain_fresh, plain_well_formed, plain_effective_type, plain_effective_initial,
+    {"library", rc_call, rc_batch, rc_fresh, rc_well_formed, rc_effective_type, rc_effective_initial,
+     rc_effective_forced, rc_file_kind, rc_check_claim, rc_setpoint},
+    {"plain C", plain_call, plain_batch, plain_fresh, plain_well_formed, plain_effective_type, plain_effective_initial,
      plain_effective_forced, plain_file_kind, plain_check_claim, plain_setpoint},
 };
 
@@ -279,6 +280,57 @@ static void setpoints(void)
     refused(0, METRES, RC_UNIT_METRES, 45000, 1, 5);
 }
 
+/* ---- A night ---- from fresh tables, where process 0 alone is live and Role Admin */
+
+#define LAST (RC_ITEM_BYTES - 1)
+
+static const struct {
+    uint8_t item[RC_ITEM_BYTES], number, place;
+} made[] = {
+    {{RC_CALL_CLONE, 0}, 5, 0},
+    {{RC_CALL_ADD_RIGHT, 0, RC_GROUP_PROCESS, 0, 0, RC_RIGHT_CLONE}, 0, 0}, /* though an item before it was refused */
+    {{RC_CALL_CLONE, 0}, 0, 1},
+    {{RC_CALL_CLONE, 1}, 0, 2}, /* by the process that is there since the item before */
+    {{RC_CALL_EXIT, 1, [LAST] = 1}, 2, 0},
+    {{RC_CALL_EXIT, 1, 1}, 2, 0},
+    {{RC_CALL_EXIT, RC_PROCESSES}, 2, 0},
+    {{RC_CALL_EXIT, 3, [LAST] = 128}, 2, 0}, /* though the caller is dead too */
+    {{RC_CALL_REMOVE_RIGHT + 1, 3}, 2, 0},
+    {{0}, 2, 0},
+    {{RC_CALL_EXIT, 3}, 3, 0},
+    {{RC_CALL_DELETE, 0, 255}, 4, 0},
+    {{RC_CALL_DELETE, 0, 0}, 5, 0},
+    {{RC_CALL_EXIT, 0}, 6, 0},
+    {{RC_CALL_EXIT, 1}, 0, 0},
+    {{RC_CALL_CLONE, 2}, 0, 1}, /* in the place that is free again */
+};
+
+#define MADE (sizeof made / sizeof made[0])
+
+static void night(void)
+{
+    uint8_t calls[MADE * RC_ITEM_BYTES], answers[MADE * RC_ANSWER_BYTES + 1];
+    for (size_t k = 0; k < MADE; k++)
+        memcpy(calls + RC_ITEM_BYTES * k, made[k].item, RC_ITEM_BYTES);
+    memset(answers, 0xee, sizeof answers);
+    fresh();
+    expect("night", "number for a part of an item",
+           m->batch(row, RC_WORDS, calls, RC_ITEM_BYTES - 1, answers, sizeof answers).number, 2);
+    expect("night", "number for too few answers",
+           m->batch(row, RC_WORDS, calls, sizeof calls, answers, sizeof answers - 2).number, 2);
+    expect("night", "number for no items", m->batch(row, RC_WORDS, calls, 0, answers, 0).number, 0);
+    expect("night", "first byte so far", answers[0], 0xee);
+    expect("night", "number", m->batch(row, RC_WORDS, calls, sizeof calls, answers, sizeof answers).number, 0);
+    for (size_t k = 0; k < MADE; k++) {
+        expect("night", "number of an item", answers[RC_ANSWER_BYTES * k], made[k].number);
+        expect("night", "place of an item", answers[RC_ANSWER_BYTES * k + 1], made[k].place);
+    }
+    expect("night", "byte behind the answers", answers[sizeof answers - 1], 0xee);
+    p0[RC_PROCESS_LIVE] = 2;
+    expect("night", "number, ill formed", m->batch(row, RC_WORDS, calls, RC_ITEM_BYTES - 1, answers, 0).number, 1);
+    expect("night", "number, ill formed and no items", m->batch(row, RC_WORDS, calls, 0, answers, 0).number, 1);
+}
+
 bool marked_examples(void)
 {
     good = true;
@@ -291,6 +343,7 @@ bool marked_examples(void)
         readings();
         until_full();
         setpoints();
+        night();
     }
     return good;
 }

@@ -93,8 +93,8 @@ static uint32_t mostly_type(uint32_t type, uint32_t cases)
 void random_setpoint(void)
 {
     struct setpoint s;
-    s.process = some_process();
-    s.list = some_file_of(RC_FILE);
+    s.process = some_process(twin_row());
+    s.list = some_file_of(twin_row(), RC_FILE);
     s.unit = number(2);
     s.amount = some_amount();
     uint32_t type = plain_effective_type(twin_row(), RC_WORDS, s.list).value;

@@ -5,7 +5,12 @@
 #include <string.h>
 
 static struct room {
-    uint32_t before[TWIN_SPARE], row[RC_WORDS], between[TWIN_SPARE], entries[TWIN_ENTRIES], after[TWIN_SPARE];
+    uint32_t before_row[TWIN_SPARE], row[RC_WORDS], before_entries[TWIN_SPARE], entries[TWIN_ENTRIES];
+    uint32_t before_calls[TWIN_SPARE];
+    uint8_t calls[RC_ITEM_BYTES * TWIN_ITEMS];
+    uint32_t before_answers[TWIN_SPARE];
+    uint8_t answers[RC_ANSWER_BYTES * TWIN_ITEMS];
+    uint32_t after[TWIN_SPARE];
 } library, plain;
 
 static size_t lent = RC_WORDS;
@@ -15,8 +20,8 @@ static uint64_t calls;
 
 /* ---- How often each answer came ---- */
 
-enum { FRESH = RC_CALL_REMOVE_RIGHT + 1, WELL_FORMED, TYPE, INITIAL, FORCED, KIND, CLAIM, IN_METRES, IN_KILOPASCALS,
-       IN_OTHER_UNIT, LINES };
+enum { FRESH = RC_CALL_REMOVE_RIGHT + 1, WELL_FORMED, TYPE, INITIAL, FORCED, KIND, CLAIM, BATCH, IN_METRES,
+       IN_KILOPASCALS, IN_OTHER_UNIT, LINES };
 
 /* The calls by kind, 0 for all unknown ones; then the other functions, setpoints by their unit. The digits are the answers
    that can occur. */
@@ -52,6 +57,7 @@ static const struct {
     {"effective forced", "0124"},
     {"file kind", "0124"},
     {"check claim", "01239"},
+    {"batch", "012"},
     {"setpoint metres", "012345"},
     {"setpoint kilopascals", "012345"},
     {"setpoint other unit", "12"},
@@ -153,8 +159,22 @@ static void print_word(uint32_t at)
            inside % table[which].words);
 }
 
+/* The first item that is answered differently, if there is one. */
+static void print_item(void)
+{
+    for (size_t k = 0; k < TWIN_ITEMS; k++) {
+        const uint8_t *l = library.answers + RC_ANSWER_BYTES * k, *p = plain.answers + RC_ANSWER_BYTES * k;
+        if (memcmp(l, p, RC_ANSWER_BYTES) == 0)
+            continue;
+        printf("  item %zu, of kind %u: library %u, place %u; plain %u, place %u\n", k,
+               plain.calls[RC_ITEM_BYTES * k], l[0], l[1], p[0], p[1]);
+        return;
+    }
+}
+
 static void print_difference(void)
 {
+    print_item();
     for (uint32_t at = 0; at < RC_WORDS; at++)
         if (library.row[at] != plain.row[at]) {
             printf("  ");
@@ -163,17 +183,30 @@ static void print_difference(void)
             return;
         }
     printf("  the rows are the same%s\n",
-           memcmp(&library, &plain, sizeof library) ? ", but an entry, or a word beside them, is not" : "");
+           memcmp(&library, &plain, sizeof library) ? ", but something else that is lent, or beside it, is not" : "");
 }
 
-/* Ends the program unless the answers, the rows and the entries are the same; the answers are rows of words too. */
+static void print_case(void)
+{
+    printf("DIFFERENCE in %s, seed %" PRIu64 ", after %" PRIu64 " calls\n", part, seed, calls);
+}
+
+void twin_differs(const char *what)
+{
+    print_case();
+    printf("  %s\n", what);
+    exit(1);
+}
+
+/* Ends the program unless the answers and all that was lent are the same; the answers are rows of words too. */
 static void compare(const char *what, const uint32_t *numbers, size_t count, const uint32_t *from_library,
                     const uint32_t *from_plain, size_t fields)
 {
     bool same = memcmp(from_library, from_plain, fields * sizeof(uint32_t)) == 0;
     if (same && memcmp(&library, &plain, sizeof library) == 0)
         return;
-    printf("DIFFERENCE in %s, seed %" PRIu64 ", after %" PRIu64 " calls\n  %s (", part, seed, calls, what);
+    print_case();
+    printf("  %s (", what);
     for (size_t i = 0; i < count; i++)
         printf("%s%" PRIu32, i ? ", " : "", numbers[i]);
     printf(") with %zu words lent\n", lent);
@@ -302,5 +335,21 @@ struct rc_answer twin_setpoint(struct setpoint s)
     uint32_t ls[] = {l.number, l.place, library.entries[0]}, ps[] = {p.number, p.place, plain.entries[0]};
     compare(line[which].name, numbers, 7, ls, ps, 3);
     hit(which, p.number);
+    return p;
+}
+
+struct rc_answer twin_batch(struct batch *b)
+{
+    memcpy(plain.calls, b->calls, sizeof b->calls);
+    memcpy(plain.answers, b->answers, sizeof b->answers);
+    memcpy(library.calls, b->calls, sizeof b->calls);
+    memcpy(library.answers, b->answers, sizeof b->answers);
+    struct rc_answer l = rc_batch(library.row, lent, library.calls, b->call_bytes, library.answers, b->answer_bytes);
+    struct rc_answer p = plain_batch(plain.row, lent, plain.calls, b->call_bytes, plain.answers, b->answer_bytes);
+    uint32_t numbers[] = {(uint32_t)b->call_bytes, (uint32_t)b->answer_bytes};
+    uint32_t ls[] = {l.number, l.place}, ps[] = {p.number, p.place};
+    compare(line[BATCH].name, numbers, 2, ls, ps, 2);
+    hit(BATCH, p.number);
+    memcpy(b->answers, plain.answers, sizeof b->answers);
     return p;
 }

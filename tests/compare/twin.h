@@ -1,20 +1,24 @@
-/* The library and the plain version side by side: each has its own row and its own entries, every call goes to both, and
-   after every call both answers, both rows and both lists of entries must be the same. A difference is printed and ends
-   the program. */
+/* The library and the plain version side by side: each has its own row, its own entries and its own bytes of a batch,
+   every call goes to both, and after every call all that they were lent and all that they answer must be the same. A
+   difference is printed and ends the program. */
 #ifndef COMPARE_TWIN_H
 #define COMPARE_TWIN_H
 
 #include "../../include/monitor.h"
 #include "../plain/monitor.h"
 
-/* Spare words on both sides of each row and of each list of entries, which nobody may touch. */
+/* Spare words on both sides of all that is lent, which nobody may touch. */
 #define TWIN_SPARE 64u
 #define TWIN_ENTRIES 16u
+#define TWIN_ITEMS 64u
 
 /* What is printed with a difference: the part of the comparison, and the seed of the case. */
 void twin_case(const char *part, uint64_t seed);
 
-/* Both rows get this content, and the entries and all spare words are filled afresh. */
+/* Prints what differs, with the case, and ends the program. */
+_Noreturn void twin_differs(const char *what);
+
+/* Both rows get this content, and all else that is lent and all spare words are filled afresh. */
 void twin_load(const uint32_t row[RC_WORDS]);
 
 /* The row as it is now, to choose calls by. */
@@ -34,6 +38,15 @@ struct setpoint {
 };
 
 struct rc_answer twin_setpoint(struct setpoint s);
+
+/* A batch of at most TWIN_ITEMS items, or one of fewer and some bytes; the answers are lent as they are here, and
+   afterwards these are what both wrote. */
+struct batch {
+    uint8_t calls[RC_ITEM_BYTES * TWIN_ITEMS], answers[RC_ANSWER_BYTES * TWIN_ITEMS];
+    size_t call_bytes, answer_bytes;
+};
+
+struct rc_answer twin_batch(struct batch *b);
 
 /* The three effective values of one place, and its kind. */
 void twin_queries(uint32_t file);

@@ -5,7 +5,6 @@ use model::Call;
 use model::Role;
 use model::numbers::PROCESS;
 use model::numbers::PROCESSES;
-use rules::refusal::first;
 use rules::refusal::unless;
 use tables::places::occupied;
 use tables::records::has_right;
@@ -22,14 +21,16 @@ ghost use Rattle.model.specs.Step.{callerNo};
 
 mod ranges;
 
-// Numbers 2 and 3: the numbers of the call fit their ranges, the caller's does too, and the caller is live.
+// Numbers 2 and 3: the numbers of the call fit their ranges, the caller's does too, and the caller is live. By branches, so that the compiler knows
+// past it that the caller is a place.
 fn head(t: &[u32], caller: u32, fits: bool) -> u32
     ensures { λ r. ⌜ r ≡ 2 unless (ltb caller PROCESSES && fits) ▹ 3 unless occupiedOf (now (t .entry)) PROCESS caller ⌝ }
 {
-    first(
-        unless(2, (caller < PROCESSES) & fits),
-        unless(3, occupied(t, PROCESS, caller)),
-    )
+    if (caller < PROCESSES) & fits {
+        unless(3, occupied(t, PROCESS, caller))
+    } else {
+        2
+    }
 }
 
 // Numbers 2 and 3 of any call.

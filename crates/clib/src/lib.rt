@@ -1,4 +1,5 @@
 // The library for C: a row of tables is lent to each function as a pointer and a number of words. include/monitor.h is its face.
+use batch::batch;
 use claims::check;
 use formed::build_fresh;
 use formed::well_formed;
@@ -21,6 +22,7 @@ ghost use Rattle.model.specs.Queries.{queryType, queryInitial, queryForced, que
 ghost use Rattle.model.specs.Claims.{check as checkOf};
 ghost use Rattle.kinds.specs.Kinds.{stepByKind};
 ghost use Rattle.setpoints.specs.Setpoints.{enter as enterOf};
+ghost use Rattle.batch.specs.Batch.{batched, batch as batchOf};
 
 // One call of a process, by its kind and its numbers; a fifth number is none that a call of today takes.
 #[no_mangle]
@@ -117,4 +119,12 @@ pub extern "C" fn rc_setpoint(
         kilopascals,
     };
     enter(tables, s, entries)
+}
+
+// A night's calls at once (W-205): items of sixteen bytes, and two bytes of answer for each.
+#[no_mangle]
+pub extern "C" fn rc_batch(tables: &mut [u32], calls: &[u8], answers: &mut [u8]) -> Answer
+    ensures { λ r. ⌜ batched r (now (tables .exit)) (now (answers .exit)) ≡ batchOf (now (tables .entry)) (now (calls .entry)) (now (answers .entry)) ⌝ }
+{
+    batch(tables, calls, answers)
 }

@@ -5,14 +5,16 @@ use Prim.Native.Nat.{ℕ}
 use mathlib.Core.Bool.{Bool, cond, _||_}
 use mathlib.Core.List.{List}
 use lib.Dec.{ltb, eqb}
+use lib.ListN.{length}
 use Rattle.sets.specs.Below.{allBelow}
 use Rattle.model.specs.declared.Call.{Call}
 use Rattle.model.specs.declared.Change.{Change}
 use Rattle.model.specs.Numbers.{_unless_, _▹_}
+use Rattle.model.specs.Layout.{rowLength}
 use Rattle.model.specs.Words.{_!_}
 use Rattle.model.specs.WellFormed.{wellFormed}
-use Rattle.model.specs.Outcome.{Outcome, decide}
-use Rattle.model.specs.Step.{step}
+use Rattle.model.specs.Outcome.{Outcome, decide, refusing}
+use Rattle.model.specs.Step.{act, step}
 use Rattle.kinds.specs.declared.Decoded.{Decoded}
 
 abbrev pub CALL-ACCESS : ℕ
@@ -124,3 +126,12 @@ written t caller (Decoded.Known call) = step t caller call
 -- a call by its kind and its numbers, on any row
 unfoldable pub stepByKind : List ℕ → ℕ → ℕ → List ℕ → Outcome
 stepByKind t kind caller n = written t caller (decodeOf kind n)
+
+-- the same on tables that are known to be well formed
+abbrev pub done : List ℕ → ℕ → Decoded → Outcome
+done t caller Decoded.Unknown = refusing 2 t
+done t caller (Decoded.Known call) = act t caller call
+
+-- a call by its kind and its numbers on tables that are known to be well formed: of them only the length is looked at
+unfoldable pub actByKind : List ℕ → ℕ → ℕ → List ℕ → Outcome
+actByKind t kind caller n = cond (eqb (length t) rowLength) (done t caller (decodeOf kind n)) (refusing 1 t)

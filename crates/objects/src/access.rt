@@ -27,10 +27,13 @@ fn access_no(t: &[u32], caller: u32, group: u32, object: u32, rctype: u32, right
     )
 }
 
-// Granted when own role has that right to the effective type; nothing changes either way.
+// Granted when own role has that right to the effective type; nothing changes either way. A file is handed on at once.
 pub fn access(t: &[u32], caller: u32, group: u32, object: u32, right: u32) -> Answer
     ensures { λ r. ⌜ outcome r (now (t .entry)) ≡ carryOut (now (t .entry)) (ruling (now (t .entry)) caller (Call.Access group object right)) ⌝ }
 {
+    if group == FILESYSTEM {
+        return access_file(t, caller, object, right);
+    }
     let rctype = type_of(t, group, object);
     refusal(access_no(t, caller, group, object, rctype, right))
 }

@@ -6,6 +6,8 @@ use effective::values::value_at;
 use model::Answer;
 use model::layout::DEPTH;
 use model::layout::FILE_TYPE;
+use model::layout::FILE_WORDS;
+use model::layout::FILES_AT;
 use model::layout::KIND;
 use model::layout::PARENT;
 use model::numbers::CREATE;
@@ -22,11 +24,17 @@ use rules::transitions::free_file;
 use tables::addresses::file_addr;
 use tables::cases::kind_of;
 use tables::places::free_place;
+use tables::places::lowest;
 use tables::places::occupied;
 use tables::records::file_word;
 use tables::records::file_words;
 ghost use mathlib.Core.Path.{_≡_};
+ghost use lib.Dec.{eqb};
+ghost use Rattle.sets.specs.Below.{firstBelow};
 ghost use Rattle.model.specs.declared.Call.{Call};
+ghost use Rattle.model.specs.Numbers.{FILES};
+ghost use Rattle.model.specs.Layout.{PARENT};
+ghost use Rattle.model.specs.Records.{fileWord};
 ghost use Rattle.model.specs.Outcome.{outcome, carryOut};
 ghost use Rattle.model.specs.Calls.{deleteNo, notChild, childless as childlessOf, removable as removableOf};
 ghost use Rattle.model.specs.Step.{ruling};
@@ -66,6 +74,13 @@ pub fn create(t: &mut [u32], caller: u32, kind: u32, parent: u32) -> Answer
     decide_words(t, number, place, file_addr(place), &file)
 }
 
+// The lowest place that names o as its parent; one past the last where none does.
+fn first_named(t: &[u32], o: u32) -> u32
+    ensures { λ r. ⌜ r ≡ firstBelow FILES (λ q. eqb (fileWord (now (t .entry)) q PARENT) o) ⌝ }
+{
+    lowest(t, (FILES_AT as u32) + PARENT, FILE_WORDS as u32, FILES, o)
+}
+
 // Whether place q holds no child of o: a root is nobody's child. Hardly any place names o as its parent, so that is asked first.
 fn not_child(t: &[u32], o: u32, q: u32) -> bool
     ensures { λ r. ⌜ r ≡ notChild (now (t .entry)) o q ⌝ }
@@ -76,11 +91,11 @@ fn not_child(t: &[u32], o: u32, q: u32) -> bool
     (q == ROOT) | !occupied(t, FILESYSTEM, q)
 }
 
-// Whether no place holds a child of o.
+// Whether no place holds a child of o. Below the first place that names o there is none, and mostly no place names it.
 fn childless(t: &[u32], o: u32) -> bool
     ensures { λ r. ⌜ r ≡ childlessOf (now (t .entry)) o ⌝ }
 {
-    let mut q = 0;
+    let mut q = first_named(t, o);
     while q < FILES {
         if !not_child(t, o, q) {
             return false;

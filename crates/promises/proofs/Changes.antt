@@ -5,12 +5,13 @@ use Prim.Native.Nat.{_+_, _<_, _≤_, ℕ}
 use mathlib.Core.List.{List, [], _∷_}
 use mathlib.Core.Path.{_∙_, _≡_, ap, refl, sym}
 use mathlib.Core.Bool.{true, not}
+use mathlib.Core.Logic.{⊎-elim}
 use native.Mathlib.Nat.{add-zero}
 use native.Mathlib.Omega.{arith}
 use borrow.Author.Tests.{ltb-true, not-false}
 use lib.Seq.{set-getD}
 use lib.ListN.{length, set}
-use Rattle.sets.proofs.Below.{first-least}
+use Rattle.sets.proofs.Below.{first-least, lt-or-le}
 use Rattle.sets.proofs.Sets.{added-there, removed-absent}
 use Rattle.model.specs.declared.Call.{Call}
 use Rattle.model.specs.declared.Change.{Change}
@@ -29,9 +30,9 @@ use Rattle.model.proofs.Records.{by-group, free-place}
 use Rattle.model.proofs.Decided.{decide-granting, decide-refusing, decided, tested}
 use Rattle.model.proofs.Granted.{Granted, clone-granted, create-granted, create-ipc-granted, granted-by}
 use Rattle.model.proofs.Formed.{facts}
-use Rattle.promises.specs.Promises.{A-granted-call-changes-one-record, A-refused-call-changes-nothing, A-grant-answers-the-place-taken, Adding-what-is-there-or-removing-what-is-not-changes-nothing, The-place-taken-is-the-lowest-free-one}
+use Rattle.promises.specs.Promises.{A-granted-call-changes-one-record, A-refused-call-changes-nothing, A-grant-answers-the-place-taken, Adding-what-is-there-or-removing-what-is-not-changes-nothing, Every-answer-fits-two-bytes, The-place-taken-is-the-lowest-free-one}
 use Rattle.promises.specs.Writes.{changeWrites, writes, placeTaken, Write}
-use Rattle.promises.proofs.Numbers.{step-number, step-granted}
+use Rattle.promises.proofs.Numbers.{a-call-answers-0-to-8, step-number, step-granted}
 use denote.Index.{place}
 
 -- ---- refused
@@ -114,6 +115,22 @@ module _ (t : List ℕ) (c : ℕ) where
   call-fits (Call.DeleteIpc i) h = let l = ltb-true i IPCS (h .ranged) in omega arith
   call-fits (Call.Administer change) h = change-fits change (h .ranged)
 
+  -- ---- the place taken is one of its table
+
+  place-fits : (call : Call) → Granted t c call → placeTaken t call < 256
+  unfolding ruling
+  place-fits (Call.Access g o right) h = omega arith
+  place-fits Call.Clone h = let l = clone-granted t c .0 (h .ruled) .room in omega arith
+  place-fits Call.Exit h = omega arith
+  place-fits (Call.Execute f) h = omega arith
+  place-fits (Call.ChangeOwner u) h = omega arith
+  place-fits (Call.ChangeRole r) h = omega arith
+  place-fits (Call.Create kind y) h = let l = create-granted t c y .0 (h .ruled) .room in omega arith
+  place-fits (Call.Delete o) h = omega arith
+  place-fits Call.CreateIpc h = let l = create-ipc-granted t c .0 (h .ruled) .room in omega arith
+  place-fits (Call.DeleteIpc i) h = omega arith
+  place-fits (Call.Administer change) h = omega arith
+
 granted-outcome : (t : List ℕ) (c : ℕ) (call : Call) → step t c call .answer .number ≡ 0
     → step t c call ≡ granting (ruling t c call .place) (ruling t c call .row)
 unfolding step
@@ -133,6 +150,18 @@ a-granted-call-changes-one-record t c call e =
 
 pub a-grant-answers-the-place-taken : A-grant-answers-the-place-taken
 a-grant-answers-the-place-taken t c call e = ap (λ (o : Outcome). o .answer .place) (granted-outcome t c call e) ∙ call-leaves t c call .1
+
+pub every-answer-fits-two-bytes : Every-answer-fits-two-bytes
+every-answer-fits-two-bytes t c call =
+    let n = step t c call .answer .number in
+    let most = a-call-answers-0-to-8 t c call in (
+      omega arith,
+      ⊎-elim
+          (λ (l : n < 1). let e : n ≡ 0 = omega arith in
+          rw (a-grant-answers-the-place-taken t c call e) (place-fits t c call (granted-by t c call .0 (step-granted t c call .0 e .1))))
+          (λ (l : 1 ≤ n). rw (a-refused-call-changes-nothing t c call (λ e. omega (arith, e, l)) .1) (omega arith))
+          (lt-or-le n 1),
+    )
 
 pub the-place-taken-is-the-lowest-free-one : The-place-taken-is-the-lowest-free-one
 unfolding freePlace

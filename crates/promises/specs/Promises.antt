@@ -41,6 +41,11 @@ isOneOf n (m ∷ rest) = eqb n m || isOneOf n rest
 abbrev pub A-call-answers-0-to-8 : Type 0
 A-call-answers-0-to-8 = (t : List ℕ) (c : ℕ) (call : Call) → step t c call .answer .number ≤ 8
 
+-- Every answer fits two bytes: one for its number and one for its place (W-205).
+abbrev pub Every-answer-fits-two-bytes : Type 0
+Every-answer-fits-two-bytes =
+    (t : List ℕ) (c : ℕ) (call : Call) → (step t c call .answer .number < 256) × (step t c call .answer .place < 256)
+
 -- Exit knows only the numbers 1, 2, 3 and 6.
 abbrev pub Exit-answers-0-1-2-3-or-6 : Type 0
 Exit-answers-0-1-2-3-or-6 = (t : List ℕ) (c : ℕ) → isOneOf (step t c Call.Exit .answer .number) (0 ∷ 1 ∷ 2 ∷ 3 ∷ 6 ∷ []) ≡ true

@@ -41,14 +41,14 @@ pub fn occupied(t: &[u32], group: u32, p: u32) -> bool
     word(t, place_addr(group, p)) != 0
 }
 
-// The lowest of count records, stride words each from base, whose first word is 0; count where there is none.
-fn lowest_free(t: &[u32], base: u32, stride: u32, count: u32) -> u32
-    ensures { λ r. ⌜ r ≡ firstBelow count (λ p. eqb (now (t .entry) ! (base + p * stride)) 0) ⌝ }
+// The lowest of count words, stride words apart from base on, that is v; count where there is none.
+pub fn lowest(t: &[u32], base: u32, stride: u32, count: u32, v: u32) -> u32
+    ensures { λ r. ⌜ r ≡ firstBelow count (λ p. eqb (now (t .entry) ! (base + p * stride)) v) ⌝ }
 {
     let mut a = base as usize;
     let mut p: u32 = 0;
     while p < count {
-        if word(t, a) == 0 {
+        if word(t, a) == v {
             return p;
         }
         a += stride as usize;
@@ -62,10 +62,10 @@ pub fn free_place(t: &[u32], group: u32) -> u32
     ensures { λ r. ⌜ r ≡ freePlace (now (t .entry)) group ⌝ }
 {
     if group == FILESYSTEM {
-        lowest_free(t, FILES_AT as u32, FILE_WORDS as u32, FILES)
+        lowest(t, FILES_AT as u32, FILE_WORDS as u32, FILES, 0)
     } else if group == PROCESS {
-        lowest_free(t, PROCESSES_AT as u32, PROCESS_WORDS as u32, PROCESSES)
+        lowest(t, PROCESSES_AT as u32, PROCESS_WORDS as u32, PROCESSES, 0)
     } else {
-        lowest_free(t, IPCS_AT as u32, IPC_WORDS as u32, IPCS)
+        lowest(t, IPCS_AT as u32, IPC_WORDS as u32, IPCS, 0)
     }
 }

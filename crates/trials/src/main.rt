@@ -1,5 +1,5 @@
 // What the scope document asks to be run: the marked examples, every table filled to its last place, and each number once; and what change requests
-// brought, where effective values come from, what enters setpoint lists, how many members a role set has and who moves users.
+// brought, where effective values come from, what enters setpoint lists, how many members a role set has, who moves users, and a night at once.
 // A line tells a trial and what it came to; every group of trials begins with fresh tables.
 use model::layout::ROW_LENGTH;
 
@@ -8,6 +8,7 @@ mod claim;
 mod full;
 mod lists;
 mod marked;
+mod night;
 mod numbers;
 mod sizes;
 mod tell;
@@ -22,6 +23,7 @@ fn main() {
     lists::run(&mut t);
     sizes::run(&mut t);
     users::run(&mut t);
+    night::run(&mut t);
     full::run(&mut t);
     numbers::run(&mut t);
     claim::numbers(&mut t);

@@ -24,8 +24,13 @@ const OWNER_AT: usize = PROCESSES_AT + OWNER;
 
 const NO_USER: u32 = 99;
 
-fn one(t: &mut [u32]) {
+// Tables that are no longer well formed.
+pub(crate) fn damage(t: &mut [u32]) {
     set_word(t, OWNER_AT, NO_USER);
+}
+
+fn one(t: &mut [u32]) {
+    damage(t);
     line(
         b"number 1, tables with a damaged word: ",
         step(t, 0, Call::Exit).number,

@@ -21,6 +21,16 @@ pub(crate) fn line(text: &[u8], n: u32) {
     say(b"\n");
 }
 
+// A trial that comes to yes or no.
+pub(crate) fn holds(text: &[u8], ok: bool) {
+    say(text);
+    if ok {
+        say(b"yes\n");
+    } else {
+        say(b"no\n");
+    }
+}
+
 // A trial whose answer carries a place.
 pub(crate) fn placed(text: &[u8], a: Answer) {
     part(text, a.number);

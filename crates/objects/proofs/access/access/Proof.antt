@@ -1,4 +1,4 @@
--- The tests in their order; the row stays either way.
+-- A file has the answer of access_file, whose equation is this one at group FILESYSTEM. Else the tests in their order; the row stays either way.
 -- Assumes nothing.
 use Rattle.model.specs.Calls.{accessNo}
 use Rattle.model.specs.Step.{ruling}
@@ -6,6 +6,12 @@ use Rattle.model.proofs.Decided.{decide-nothing}
 use borrow.Author.Needs.{needs}
 use Rattle.objects.proofs.access.access.Statement.{statement}
 use Rattle.objects.proofs.access.access.Tie as tie
+
+access-file-requires : tie.Need-access-file-requires
+access-file-requires c κs = search needs
+
+returns : tie.Need-returns
+returns c = rw (c .before .if1 .taken) (c .access-file .ensures)
 
 type-of-requires : tie.Need-type-of-requires
 type-of-requires c κs = search needs
@@ -16,10 +22,18 @@ access-no-requires c κs = search needs
 refusal-requires : tie.Need-refusal-requires
 refusal-requires c κs = search needs
 
-returns : tie.Need-returns
+returns-2 : tie.Need-returns-2
 unfolding ruling accessNo
-returns c =
+returns-2 c =
     rw (c .refusal .ensures, c .before .access-no .ensures, c .before .before .type-of .ensures) (decide-nothing _ _)
 
 pub access-spec : {M : Type 1} → statement M
-access-spec = tie.close (tie.spec type-of-requires access-no-requires refusal-requires returns)
+access-spec =
+    tie.close
+    (tie.spec
+    access-file-requires
+    returns
+    type-of-requires
+    access-no-requires
+    refusal-requires
+    returns-2)

@@ -1,17 +1,27 @@
 -- The loop has found no child below q; the first child that it meets is enough for the answer false.
+-- It may start at the first place that names o: one below names another parent, and so holds no child of o.
 -- Assumes nothing.
-use Prim.Native.Nat.{_≤_, _-_}
-use mathlib.Core.Path.{_≡_, refl, sym, _∙_}
-use mathlib.Core.Bool.{true}
+use Prim.Native.Nat.{ℕ, _≤_, _-_}
+use mathlib.Core.Path.{_≡_, sym, _∙_}
+use mathlib.Core.Bool.{true, or-true}
+use mathlib.Core.List.{List}
 use native.Mathlib.Omega.{arith}
 use borrow.Author.Needs.{needs}
 use borrow.Author.Tests.{not-true, not-false}
-use Rattle.sets.specs.Below.{allBelow}
-use Rattle.sets.proofs.Below.{all-next, all-miss}
+use lib.Dec.{eqb}
+use Rattle.sets.specs.Below.{allBelow, firstBelow}
+use Rattle.sets.proofs.Below.{all-of, all-next, all-miss, first-least, first-bound}
 use Rattle.model.specs.Numbers.{FILES}
+use Rattle.model.specs.Layout.{PARENT}
+use Rattle.model.specs.Records.{fileWord}
 use Rattle.model.specs.Calls.{notChild, childless}
 use Rattle.objects.proofs.files.childless.Statement.{statement}
 use Rattle.objects.proofs.files.childless.Tie as tie
+
+-- below the first place that names o, no place holds a child of o
+none-before : (t : List ℕ) (o : ℕ) → allBelow (firstBelow FILES (λ q. eqb (fileWord t q PARENT) o)) (notChild t o) ≡ true
+unfolding notChild
+none-before t o = all-of _ _ (λ k l. rw (first-least _ FILES k l, or-true))
 
 abbrev Inv-loop : tie.InvT-loop
 Inv-loop t o q₀ q = (allBelow q (notChild t o) ≡ true) × (q ≤ FILES)
@@ -19,9 +29,11 @@ Inv-loop t o q₀ q = (allBelow q (notChild t o) ≡ true) × (q ≤ FILES)
 abbrev μ-loop : tie.MeasureT-loop
 μ-loop t o q₀ q = FILES - q
 
+first-named-requires : tie.Need-first-named-requires Inv-loop μ-loop
+first-named-requires c κs = search needs
+
 loop-holds : tie.Need-loop-holds Inv-loop μ-loop
-unfolding allBelow
-loop-holds c = (refl, search needs)
+loop-holds c = rw (c .first-named .ensures) (none-before _ _, first-bound _ FILES)
 
 not-child-requires : tie.Need-not-child-requires Inv-loop μ-loop
 not-child-requires c κs = search needs
@@ -55,6 +67,7 @@ childless-spec =
     (tie.spec
     Inv-loop
     μ-loop
+    first-named-requires
     loop-holds
     not-child-requires
     returns

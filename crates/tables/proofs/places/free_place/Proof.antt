@@ -8,63 +8,63 @@ use native.Mathlib.Omega.{arith}
 use borrow.Author.Tests.{eq-eqb, ne-eqb}
 use Rattle.tables.proofs.Laws.{free-in}
 
-cast-lowest-free : tie.Need-cast-lowest-free
-cast-lowest-free c = search needs
+cast-lowest : tie.Need-cast-lowest
+cast-lowest c = search needs
 
-cast-lowest-free-2 : tie.Need-cast-lowest-free-2
-cast-lowest-free-2 c = search needs
+cast-lowest-2 : tie.Need-cast-lowest-2
+cast-lowest-2 c = search needs
 
-lowest-free-requires : tie.Need-lowest-free-requires
-lowest-free-requires c κs = search needs
+lowest-requires : tie.Need-lowest-requires
+lowest-requires c κs = search needs
 
-cast-lowest-free-3 : tie.Need-cast-lowest-free-3
-cast-lowest-free-3 c = search needs
+cast-lowest-3 : tie.Need-cast-lowest-3
+cast-lowest-3 c = search needs
 
-cast-lowest-free-4 : tie.Need-cast-lowest-free-4
-cast-lowest-free-4 c = search needs
+cast-lowest-4 : tie.Need-cast-lowest-4
+cast-lowest-4 c = search needs
 
-lowest-free-requires-2 : tie.Need-lowest-free-requires-2
-lowest-free-requires-2 c κs = search needs
+lowest-requires-2 : tie.Need-lowest-requires-2
+lowest-requires-2 c κs = search needs
 
-cast-lowest-free-5 : tie.Need-cast-lowest-free-5
-cast-lowest-free-5 c = search needs
+cast-lowest-5 : tie.Need-cast-lowest-5
+cast-lowest-5 c = search needs
 
-cast-lowest-free-6 : tie.Need-cast-lowest-free-6
-cast-lowest-free-6 c = search needs
+cast-lowest-6 : tie.Need-cast-lowest-6
+cast-lowest-6 c = search needs
 
-lowest-free-requires-3 : tie.Need-lowest-free-requires-3
-lowest-free-requires-3 c κs = search needs
+lowest-requires-3 : tie.Need-lowest-requires-3
+lowest-requires-3 c κs = search needs
 
 returns : tie.Need-returns
 returns c =
     let g = eq-eqb _ 0 (c .before .if1 .taken) in
-    c .lowest-free .ensures ∙ free-in _ _ _ _ _ (rw g) (λ p. rw g)
+    c .lowest .ensures ∙ free-in _ _ _ _ _ (rw g) (λ p. rw g)
 
 returns-2 : tie.Need-returns-2
 returns-2 c =
     let g = ne-eqb _ 0 (c .before .before .if1 .left) in
     let h = eq-eqb _ 1 (c .before .if2 .taken) in
-    c .lowest-free2 .ensures ∙ free-in _ _ _ _ _ (rw (g, h)) (λ p. rw (g, h) (omega arith))
+    c .lowest2 .ensures ∙ free-in _ _ _ _ _ (rw (g, h)) (λ p. rw (g, h) (omega arith))
 
 returns-3 : tie.Need-returns-3
 returns-3 c =
     let g = ne-eqb _ 0 (c .before .before .if1 .left) in
     let h = ne-eqb _ 1 (c .before .if2 .left) in
-    c .lowest-free3 .ensures ∙ free-in _ _ _ _ _ (rw (g, h)) (λ p. rw (g, h))
+    c .lowest3 .ensures ∙ free-in _ _ _ _ _ (rw (g, h)) (λ p. rw (g, h))
 
 pub free-place-spec : {M : Type 1} → statement M
 free-place-spec =
     tie.close
     (tie.spec
-    cast-lowest-free
-    cast-lowest-free-2
-    lowest-free-requires
-    cast-lowest-free-3
-    cast-lowest-free-4
-    lowest-free-requires-2
-    cast-lowest-free-5
-    cast-lowest-free-6
-    lowest-free-requires-3
+    cast-lowest
+    cast-lowest-2
+    lowest-requires
+    cast-lowest-3
+    cast-lowest-4
+    lowest-requires-2
+    cast-lowest-5
+    cast-lowest-6
+    lowest-requires-3
     returns
     returns-2
     returns-3)

@@ -1,0 +1,5 @@
+pub mod Laws
+pub mod Order
+pub mod OneByOne
+pub mod Run
+pub mod Examples
