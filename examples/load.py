@@ -3,7 +3,7 @@
 import ctypes
 import sys
 
-WORDS, ACCESS, ADD_RIGHT, FILESYSTEM, READ = 5376, 1, 20, 0, 0  # as in monitor.h
+WORDS, ACCESS, ADD_RIGHT, FILESYSTEM, READ = 6144, 1, 20, 0, 0  # as in monitor.h
 
 
 class Answer(ctypes.Structure):

@@ -25,9 +25,10 @@
    Each table begins at a fixed word and has places of a fixed number of words: the type value of file 7, for one, is
    row[RC_FILES_AT + RC_FILE_WORDS * 7 + RC_FILE_TYPE]. The first word of a process, an IPC object or a file tells whether
    its place is taken; a free place holds zeros only. If you keep rows longer than a program runs, keep the layout's
-   version beside them: it is raised whenever a word of the tables or of a claim moves or changes its meaning. */
-#define RC_LAYOUT_VERSION 1
-#define RC_WORDS 5376u
+   version beside them: it is raised whenever a word of the tables or of a claim moves or changes its meaning. Version 2
+   brought the kept values. */
+#define RC_LAYOUT_VERSION 2
+#define RC_WORDS 6144u
 
 #define RC_PROCESSES_AT 0u /* 64 processes */
 #define RC_PROCESSES 64u
@@ -76,7 +77,17 @@
 #define RC_FILE 1u
 #define RC_DIR 2u
 
-#define RC_RIGHTS_AT 2304u /* 3 groups, 32 roles in each, 32 types in each: one set of rights for each entry */
+/* The effective values of each file place, zeros for a free one, are the library's to keep: every call leaves them right,
+   and a row where one is not right is not well formed. Only who builds a row by hand, or changes a file in it, must fill
+   them: with the file's own value, or where that is RC_INHERIT_PARENT with the one kept for its parent; the root then has
+   0, RC_USE_FORCED_ROLE and RC_UP_MIXED. */
+#define RC_KEPT_AT 2304u /* 256 entries, one for each file place */
+#define RC_KEPT_WORDS 3u
+#define RC_KEPT_TYPE 0u    /* a type */
+#define RC_KEPT_INITIAL 1u /* a role or RC_USE_FORCED_ROLE */
+#define RC_KEPT_FORCED 2u  /* a role, RC_INHERIT_USER, RC_INHERIT_PROCESS or RC_UP_MIXED */
+
+#define RC_RIGHTS_AT 3072u /* 3 groups, 32 roles in each, 32 types in each: one set of rights for each entry */
 #define RC_GROUPS 3u
 #define RC_TYPES 32u
 #define RC_RIGHTS_ENTRY(group, role, type) (RC_RIGHTS_AT + ((group)*RC_ROLES + (role)) * RC_TYPES + (type))

@@ -97,6 +97,11 @@ static void access_file(enum who who)
     call(who, RC_CALL_ACCESS, CALLER, RC_GROUP_FILESYSTEM, PROGRAM, RC_RIGHT_READ);
 }
 
+static void access_deep(enum who who)
+{
+    call(who, RC_CALL_ACCESS, CALLER, RC_GROUP_FILESYSTEM, DEEP, RC_RIGHT_READ);
+}
+
 static void clone_exit(enum who who)
 {
     call(who, RC_CALL_CLONE, CALLER, 0, 0, 0);
@@ -120,6 +125,13 @@ static void create_delete(enum who who)
     call(who, RC_CALL_DELETE, CALLER, LAST_FILE, 0, 0);
 }
 
+/* The type of the root changes each time between two, and with it that of every object. */
+static void refresh(enum who who)
+{
+    uint32_t type = row[RC_FILES_AT + RC_FILE_TYPE] == 1 ? 2 : 1;
+    call(who, RC_CALL_SET_TYPE, ADMIN, RC_GROUP_FILESYSTEM, 0, type);
+}
+
 /* ---- What the items are made on ---- */
 
 static void busy(void)
@@ -135,6 +147,27 @@ static void dense(void)
 static void sparse(void)
 {
     sparse_claim(row, claim);
+}
+
+static void flat(void)
+{
+    flat_tree(row);
+}
+
+static void deep(void)
+{
+    deep_tree(row);
+}
+
+static void backward(void)
+{
+    backward_tree(row);
+}
+
+static void after_refreshes(void)
+{
+    for (uint32_t f = 0; f < LAST_FILE; f++)
+        refused |= row[RC_KEPT_AT + RC_KEPT_WORDS * f + RC_KEPT_TYPE] != row[RC_FILES_AT + RC_FILE_TYPE];
 }
 
 static void before_the_night(void)
@@ -157,11 +190,15 @@ static const struct {
 } items[] = {
     {"well-formed", "well formed", 1, 1, well_formed, busy, NULL},
     {"access", "access", 1, 1, access_file, busy, NULL},
+    {"access-deep", "access at depth 15", 1, 1, access_deep, busy, NULL},
     {"clone-exit", "clone and exit (2 calls)", 2, 1, clone_exit, busy, NULL},
     {"execute", "execute", 1, 1, execute, busy, NULL},
     {"owner-role", "owner and role (2 calls)", 2, 1, owner_role, busy, NULL},
     {"create-delete", "create, delete (2 calls)", 2, 1, create_delete, busy, NULL},
     {"climb", "effective type, depth 15", 1, 1, climb, busy, NULL},
+    {"refresh-flat", "set root's type, flat tree", 1, 1, refresh, flat, after_refreshes},
+    {"refresh-deep", "set root's type, deep tree", 1, 1, refresh, deep, after_refreshes},
+    {"refresh-backward", "set root's type, backward", 1, 1, refresh, backward, after_refreshes},
     {"claim-dense", "claim accepted, dense", 1, 1, check_claim, dense, NULL},
     {"claim-sparse", "claim accepted, sparse", 1, 1, check_claim, sparse, NULL},
     {"setpoint", "setpoint in metres", 1, 1, setpoint, busy, NULL},

@@ -1,5 +1,5 @@
 /* Fewer instructions than the plain version where that can be had without intrinsics: tests of several words at once,
-   the likely test first, loops that gcc -O2 turns into vectors, effective values of all files in one walk. */
+   the likely test first, loops that gcc -O2 turns into vectors, and kept values in the place of climbs (W-206). */
 #include "good.h"
 #include "../plain/tables.h"
 #include <string.h>
@@ -47,26 +47,49 @@ static bool ipcs_ok(const struct tables *t)
     return true;
 }
 
-static bool values_ok(const struct file *f)
+static uint32_t own_or(uint32_t own, uint32_t inherited)
 {
-    return is_file_type(f->type) && is_initial(f->initial) && is_forced(f->forced);
+    return own == RC_INHERIT_PARENT ? inherited : own;
 }
+
+/* Two words as one number. */
+static uint64_t both(const uint32_t *words)
+{
+    uint64_t number;
+    memcpy(&number, words, sizeof number);
+    return number;
+}
+
+/* The values of a file, and what is kept of them: its own, or what its parent keeps. Since depths fall from a file to its
+   parent, that is what a climb finds. Most files inherit all three. */
+static inline bool values_ok(const struct file *f, const struct kept *k, const struct kept *up)
+{
+    if (both(&f->type) == UINT64_C(0x100000001) * RC_INHERIT_PARENT && f->forced == RC_INHERIT_PARENT)
+        return both(&k->type) == both(&up->type) && k->forced == up->forced;
+    return is_file_type(f->type) && is_initial(f->initial) && is_forced(f->forced) &&
+           k->type == own_or(f->type, up->type) && k->initial == own_or(f->initial, up->initial) &&
+           k->forced == own_or(f->forced, up->forced);
+}
+
+static const struct kept above_root = {0, RC_USE_FORCED_ROLE, RC_UP_MIXED};
 
 static bool files_ok(const struct tables *t)
 {
     const struct file *root = t->file;
-    if (root->kind != RC_DIR || (root->parent | root->depth) != 0 || !values_ok(root))
+    const struct kept *k = t->kept;
+    if (root->kind != RC_DIR || (root->parent | root->depth) != 0 || !values_ok(root, k, &above_root))
         return false;
     for (const struct file *f = root + 1; f < root + RC_FILES; f++) {
+        k++;
         if (f->kind == RC_FREE) {
-            if ((f->parent | f->depth | f->type | f->initial | f->forced) != 0)
+            if ((f->parent | f->depth | f->type | f->initial | f->forced | k->type | k->initial | k->forced) != 0)
                 return false;
             continue;
         }
-        if (f->kind > RC_DIR || !values_ok(f) || f->parent >= RC_FILES || f->depth > RC_DEPTH_MOST)
+        if (f->kind > RC_DIR || f->parent >= RC_FILES || f->depth > RC_DEPTH_MOST)
             return false;
         const struct file *parent = &t->file[f->parent];
-        if (parent->kind != RC_DIR || f->depth != parent->depth + 1)
+        if (parent->kind != RC_DIR || f->depth != parent->depth + 1 || !values_ok(f, k, &t->kept[f->parent]))
             return false;
     }
     return true;
@@ -96,7 +119,7 @@ static uint32_t access_number(const struct tables *t, uint32_t role, uint32_t gr
     uint32_t live, type;
     if (group == RC_GROUP_FILESYSTEM) {
         live = t->file[object].kind;
-        type = effective(t, object, TYPE);
+        type = t->kept[object].type;
     } else if (group == RC_GROUP_PROCESS) {
         live = t->process[object].live;
         type = t->process[object].type;
@@ -147,10 +170,10 @@ BODY execute_file(struct tables *t, struct process *p, uint32_t file)
     if (t->file[file].kind != RC_FILE)
         return answer(RC_NO_SUCH_PLACE, 0);
     const struct role *own = &t->role[p->role];
-    if (!has_right(t, RC_GROUP_FILESYSTEM, p->role, effective(t, file, TYPE), RC_RIGHT_EXECUTE))
+    const struct kept *k = &t->kept[file];
+    if (!has_right(t, RC_GROUP_FILESYSTEM, p->role, k->type, RC_RIGHT_EXECUTE))
         return answer(RC_NOT_ALLOWED, 0);
-    uint32_t initial = effective(t, file, INITIAL);
-    uint32_t forced = effective(t, file, FORCED);
+    uint32_t initial = k->initial, forced = k->forced;
     if (own->process_execute != RC_INHERIT_PARENT)
         p->type = own->process_execute;
     if (initial != RC_USE_FORCED_ROLE)
@@ -199,7 +222,8 @@ BODY create_file(struct tables *t, const struct process *p, uint32_t kind, uint3
     const struct file *dir = &t->file[parent];
     if (dir->kind != RC_DIR)
         return answer(RC_NO_SUCH_PLACE, 0);
-    if (!has_right(t, RC_GROUP_FILESYSTEM, p->role, effective(t, parent, TYPE), RC_RIGHT_CREATE))
+    const struct kept *up = &t->kept[parent];
+    if (!has_right(t, RC_GROUP_FILESYSTEM, p->role, up->type, RC_RIGHT_CREATE))
         return answer(RC_NOT_ALLOWED, 0);
     if (dir->depth == RC_DEPTH_MOST)
         return answer(RC_TOO_DEEP, 0);
@@ -210,8 +234,9 @@ BODY create_file(struct tables *t, const struct process *p, uint32_t kind, uint3
             break;
     if (place == RC_FILES)
         return answer(RC_FULL, 0);
-    t->file[place] = (struct file){
-        kind, parent, dir->depth + 1, t->role[p->role].file_create, RC_INHERIT_PARENT, RC_INHERIT_PARENT};
+    uint32_t type = t->role[p->role].file_create;
+    t->file[place] = (struct file){kind, parent, dir->depth + 1, type, RC_INHERIT_PARENT, RC_INHERIT_PARENT};
+    t->kept[place] = (struct kept){own_or(type, up->type), up->initial, up->forced};
     return answer(RC_GRANTED, place);
 }
 
@@ -232,11 +257,12 @@ BODY delete_file(struct tables *t, const struct process *p, uint32_t file)
     struct file *f = &t->file[file];
     if (f->kind == RC_FREE)
         return answer(RC_NO_SUCH_PLACE, 0);
-    if (!has_right(t, RC_GROUP_FILESYSTEM, p->role, effective(t, file, TYPE), RC_RIGHT_DELETE))
+    if (!has_right(t, RC_GROUP_FILESYSTEM, p->role, t->kept[file].type, RC_RIGHT_DELETE))
         return answer(RC_NOT_ALLOWED, 0);
     if (file == ROOT || (f->kind == RC_DIR && has_children(t, file)))
         return answer(RC_NOT_REMOVABLE, 0);
     *f = (struct file){0};
+    t->kept[file] = (struct kept){0};
     return answer(RC_GRANTED, 0);
 }
 
@@ -304,19 +330,52 @@ BODY set_user_role(struct tables *t, const struct process *p, uint32_t user, uin
     return answer(RC_GRANTED, 0);
 }
 
+/* One of the three values of a file, its own and the kept one; they stand in the order of their names. */
+static uint32_t *own_word(struct tables *t, uint32_t file, enum inherited which)
+{
+    return (uint32_t *)&t->file[file] + RC_FILE_TYPE + which;
+}
+
+static uint32_t *kept_word(struct tables *t, uint32_t file, enum inherited which)
+{
+    return (uint32_t *)&t->kept[file] + which;
+}
+
+/* All that inherit, in one walk: what a parent at an earlier place keeps is right by then, and one at a later place is
+   climbed to. */
+static void refresh(struct tables *t, enum inherited which)
+{
+    for (uint32_t o = 1; o < RC_FILES; o++) {
+        if (*own_word(t, o, which) != RC_INHERIT_PARENT)
+            continue;
+        uint32_t parent = t->file[o].parent;
+        *kept_word(t, o, which) = parent < o ? *kept_word(t, parent, which) : effective(t, o, which);
+    }
+}
+
+/* Nothing is below a FILE, and nothing moves below a DIR whose value comes to what it was. */
+static void set_value(struct tables *t, uint32_t file, uint32_t value, enum inherited which)
+{
+    uint32_t *kept = kept_word(t, file, which), before = *kept;
+    *own_word(t, file, which) = value;
+    *kept = own_or(value, file == ROOT ? *((const uint32_t *)&above_root + which)
+                                       : *kept_word(t, t->file[file].parent, which));
+    if (t->file[file].kind == RC_DIR && *kept != before)
+        refresh(t, which);
+}
+
 /* The initial or the forced value. */
 BODY set_file_role(struct tables *t, const struct process *p, uint32_t file, uint32_t value, enum inherited which)
 {
     if (file >= RC_FILES || !(which == INITIAL ? is_initial(value) : is_forced(value)))
         return answer(RC_OUT_OF_RANGE, 0);
-    struct file *f = &t->file[file];
     const struct role *own = &t->role[p->role];
-    if (f->kind == RC_FREE)
+    if (t->file[file].kind == RC_FREE)
         return answer(RC_NO_SUCH_PLACE, 0);
     if (!own->mark && (!contains(own->assign, value) ||
-                       !has_right(t, RC_GROUP_FILESYSTEM, p->role, effective(t, file, TYPE), RC_RIGHT_MODIFY_ATTRIBUTE)))
+                       !has_right(t, RC_GROUP_FILESYSTEM, p->role, t->kept[file].type, RC_RIGHT_MODIFY_ATTRIBUTE)))
         return answer(RC_NOT_ALLOWED, 0);
-    *(which == INITIAL ? &f->initial : &f->forced) = value;
+    set_value(t, file, value, which);
     return answer(RC_GRANTED, 0);
 }
 
@@ -362,9 +421,9 @@ static bool may_set_type(const struct tables *t, uint32_t role, uint32_t group, 
 {
     const uint32_t *rights = t->rights[group][role];
     if (group == RC_GROUP_FILESYSTEM) {
-        before = effective(t, object, TYPE);
+        before = t->kept[object].type;
         if (value == RC_INHERIT_PARENT)
-            value = object == ROOT ? 0 : effective(t, t->file[object].parent, TYPE);
+            value = object == ROOT ? 0 : t->kept[t->file[object].parent].type;
     }
     return (rights[value] >> RC_RIGHT_ASSIGN & rights[before] >> RC_RIGHT_MODIFY_ATTRIBUTE & 1) != 0;
 }
@@ -384,7 +443,10 @@ BODY set_type(struct tables *t, const struct process *p, uint32_t group, uint32_
         return answer(RC_NO_SUCH_PLACE, 0);
     if (!t->role[p->role].mark && !may_set_type(t, p->role, group, object, *type, value))
         return answer(RC_NOT_ALLOWED, 0);
-    *type = value;
+    if (group == RC_GROUP_FILESYSTEM)
+        set_value(t, object, value, TYPE);
+    else
+        *type = value;
     return answer(RC_GRANTED, 0);
 }
 
@@ -500,27 +562,6 @@ struct rc_found good_effective_type(const uint32_t *tables, size_t words, uint32
     return good_climb_type(tables, file);
 }
 
-struct values {
-    uint32_t type, initial, forced;
-};
-
-/* A file has its parent's values where it inherits; a parent that stands at a later place is climbed to. */
-static void all_values(const struct tables *t, struct values v[RC_FILES])
-{
-    v[ROOT] = (struct values){effective(t, ROOT, TYPE), effective(t, ROOT, INITIAL), effective(t, ROOT, FORCED)};
-    for (uint32_t o = 1; o < RC_FILES; o++) {
-        const struct file *f = &t->file[o];
-        if (f->parent < o) {
-            const struct values *up = &v[f->parent];
-            v[o].type = f->type == RC_INHERIT_PARENT ? up->type : f->type;
-            v[o].initial = f->initial == RC_INHERIT_PARENT ? up->initial : f->initial;
-            v[o].forced = f->forced == RC_INHERIT_PARENT ? up->forced : f->forced;
-        } else {
-            v[o] = (struct values){effective(t, o, TYPE), effective(t, o, INITIAL), effective(t, o, FORCED)};
-        }
-    }
-}
-
 /* ---- Claims ---- */
 
 static bool plain_type_in(uint32_t set, uint32_t type)
@@ -586,8 +627,8 @@ static void types_made(const struct tables *t, uint32_t made[RC_TYPES])
 static bool closed(uint32_t types, const uint32_t made[RC_TYPES])
 {
     uint32_t all = 0;
-    for (uint32_t type = 0; type < RC_TYPES; type++)
-        all |= made[type] & -(types >> type & 1);
+    for (uint32_t rest = types; rest != 0; rest &= rest - 1)
+        all |= made[__builtin_ctz(rest)];
     return (all & ~types) == 0;
 }
 
@@ -604,23 +645,22 @@ static uint32_t first_broken(const struct tables *t, const uint32_t *claim)
         return broken;
 
     uint32_t made[RC_TYPES] = {0};
-    struct values v[RC_FILES];
     types_made(t, made);
-    all_values(t, v);
     uint32_t started = types_with(all.file, RC_RIGHT_EXECUTE);
     uint64_t met = UINT64_C(1) << p->forced, begun = 0; /* forced and initial values, each as a bit */
     for (uint32_t o = 0; o < RC_FILES; o++) {
+        const struct kept *k = &t->kept[o];
         uint32_t types = types_of[o], kind = t->file[o].kind;
         if (kind == RC_FREE) {
             if (types != 0)
                 return 6;
             continue;
         }
-        if (!contains(types, v[o].type) || (kind == RC_DIR && !closed(types, made)))
+        if (!contains(types, k->type) || (kind == RC_DIR && !closed(types, made)))
             return 6;
         if ((types & started) != 0) {
-            met |= UINT64_C(1) << v[o].forced;
-            begun |= UINT64_C(1) << v[o].initial;
+            met |= UINT64_C(1) << k->forced;
+            begun |= UINT64_C(1) << k->initial;
         }
     }
     if (((uint32_t)(met | begun) & ~s) != 0)
@@ -670,7 +710,7 @@ struct rc_answer good_enter(const uint32_t *tables, uint32_t process, uint32_t l
         return answer(RC_OUT_OF_RANGE, 0);
     if (!t->process[process].live)
         return answer(RC_NOT_LIVE, 0);
-    uint32_t type = effective(t, list, TYPE);
+    uint32_t type = t->kept[list].type;
     if (t->file[list].kind != RC_FILE || type != (unit == RC_UNIT_METRES ? metres_type : kilopascals_type))
         return answer(RC_NO_SUCH_PLACE, 0);
     if (!has_right(t, RC_GROUP_FILESYSTEM, t->process[process].role, type, RC_RIGHT_WRITE))

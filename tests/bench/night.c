@@ -9,7 +9,6 @@
 #define ODD 214u
 _Static_assert(2 * KINDS * PAIRS + ODD == NIGHT_ITEMS, "the night has its items");
 
-#define ADMIN 0u  /* a process in role 0, which is Role Admin */
 #define HELPER 6u /* a process in role 7, which may assign and administrate all roles, and has all rights */
 #define HELPER_ROLE 7u
 #define LAST_IPC 63u
@@ -17,7 +16,6 @@ _Static_assert(2 * KINDS * PAIRS + ODD == NIGHT_ITEMS, "the night has its items"
 void night_tables(uint32_t row[RC_WORDS])
 {
     busy_tables(row);
-    row[RC_PROCESSES_AT + RC_PROCESS_WORDS * ADMIN + RC_PROCESS_ROLE] = 0;
     row[RC_PROCESSES_AT + RC_PROCESS_WORDS * HELPER + RC_PROCESS_ROLE] = HELPER_ROLE;
     row[RC_ROLES_AT + RC_ROLE_WORDS * HELPER_ROLE + RC_ROLE_ADMIN] = UINT32_MAX;
     row[RC_ROLES_AT + RC_ROLE_WORDS * HELPER_ROLE + RC_ROLE_ASSIGN] = UINT32_MAX;

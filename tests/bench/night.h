@@ -8,7 +8,7 @@
 #define NIGHT_CALL_BYTES (RC_ITEM_BYTES * NIGHT_ITEMS)
 #define NIGHT_ANSWER_BYTES (RC_ANSWER_BYTES * NIGHT_ITEMS)
 
-/* The busy tables with two processes that administrate. The calls leave them as they found them, so that the night can
+/* The busy tables with a second process that administrates. The calls leave them as they found them, so that the night can
    be repeated. */
 void night_tables(uint32_t row[RC_WORDS]);
 void night_calls(uint8_t calls[NIGHT_CALL_BYTES]);

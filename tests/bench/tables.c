@@ -1,4 +1,5 @@
 #include "tables.h"
+#include "../compare/rows.h"
 #include <string.h>
 
 #define BIT(n) (UINT32_C(1) << (n))
@@ -26,7 +27,7 @@ void busy_tables(uint32_t row[RC_WORDS])
         uint32_t *process = row + RC_PROCESSES_AT + RC_PROCESS_WORDS * p;
         process[RC_PROCESS_LIVE] = 1;
         process[RC_PROCESS_OWNER] = p % RC_USERS;
-        process[RC_PROCESS_ROLE] = 3;
+        process[RC_PROCESS_ROLE] = p == ADMIN ? 0 : 3;
         process[RC_PROCESS_FORCED] = RC_UP_MIXED;
     }
     for (uint32_t u = 0; u < RC_USERS; u++)
@@ -47,7 +48,34 @@ void busy_tables(uint32_t row[RC_WORDS])
     put_file(row, FOLDER, RC_DIR, 16);
     for (uint32_t f = FOLDER + 1; f < LAST_FILE; f++)
         put_file(row, f, RC_FILE, FOLDER);
+    fill_kept(row);
     put_rights(row, 3, BIT(RC_RIGHT_ADMIN) - 1);
+}
+
+void flat_tree(uint32_t row[RC_WORDS])
+{
+    busy_tables(row);
+    for (uint32_t f = 1; f < LAST_FILE; f++)
+        put_file(row, f, RC_FILE, 0);
+    fill_kept(row);
+}
+
+void deep_tree(uint32_t row[RC_WORDS])
+{
+    uint32_t last_dir = RC_DEPTH_MOST - 1;
+    busy_tables(row);
+    for (uint32_t f = 1; f < LAST_FILE; f++)
+        put_file(row, f, f <= last_dir ? RC_DIR : RC_FILE, f <= last_dir ? f - 1 : last_dir);
+    fill_kept(row);
+}
+
+void backward_tree(uint32_t row[RC_WORDS])
+{
+    uint32_t top = LAST_FILE - 1, last_dir = LAST_FILE - (RC_DEPTH_MOST - 1);
+    busy_tables(row);
+    for (uint32_t f = top; f > 0; f--)
+        put_file(row, f, f >= last_dir ? RC_DIR : RC_FILE, f == top ? 0 : f >= last_dir ? f + 1 : last_dir);
+    fill_kept(row);
 }
 
 void dense_claim(uint32_t row[RC_WORDS], uint32_t claim[RC_CLAIM_WORDS])

@@ -1,5 +1,6 @@
 #include "batch.h"
 #include "calls.h"
+#include "kept.h"
 #include "random.h"
 #include "rows.h"
 #include "twin.h"
@@ -306,16 +307,27 @@ static void wrong_lengths(void)
     case_hits[NO_ANSWERS] += lent == 0;
 }
 
+/* What links the tables, or a kept value: there is always one to damage, if not in every way. */
+static void damage_surely(uint32_t *tables)
+{
+    if (percent(60))
+        damage_links(tables, below(LINK_DAMAGES));
+    else
+        while (!damage_kept(tables, below(KEPT_DAMAGES)))
+            ;
+}
+
 /* Damaged tables, or a row of another length; number 1 comes first, whatever is wrong besides. */
 static void ill_formed(void)
 {
     static uint32_t damaged[RC_WORDS];
-    static const size_t lengths[] = {0, 1, RC_RIGHTS_AT, RC_WORDS - 1, RC_WORDS + 1, RC_WORDS + TWIN_SPARE};
+    static const size_t lengths[] = {
+        0, 1, RC_RIGHTS_AT, WITHOUT_KEPT, RC_WORDS - 1, RC_WORDS + 1, RC_WORDS + TWIN_SPARE};
     bool other_length = percent(30), wrong = percent(40), empty = percent(30);
     size_t words = other_length ? lengths[below(sizeof lengths / sizeof lengths[0])] : RC_WORDS;
     memcpy(damaged, row, sizeof row);
     if (!other_length)
-        damage_links(damaged, below(LINK_DAMAGES));
+        damage_surely(damaged);
     size_t call_bytes = empty ? 0 : wrong ? no_multiple() : RC_ITEM_BYTES * items;
     at_once(damaged, words, call_bytes, wrong ? 0 : enough(), RC_ILL_FORMED);
     case_hits[WRONG_ROW] += other_length;

@@ -20,30 +20,19 @@ static bool in(uint32_t set, uint32_t member)
     return member < 32 && (set >> member & 1);
 }
 
-/* The value of a file that counts, looked for step by step from the file up to the root. */
-static uint32_t value_of(uint32_t place, uint32_t field, uint32_t at_root)
-{
-    while (file_at(row, place)[field] == RC_INHERIT_PARENT) {
-        if (place == 0)
-            return at_root;
-        place = file_at(row, place)[RC_FILE_PARENT];
-    }
-    return file_at(row, place)[field];
-}
-
 static uint32_t type_of(uint32_t place)
 {
-    return value_of(place, RC_FILE_TYPE, 0);
+    return effective_value(row, place, RC_KEPT_TYPE);
 }
 
 static uint32_t initial_of(uint32_t place)
 {
-    return value_of(place, RC_FILE_INITIAL, RC_USE_FORCED_ROLE);
+    return effective_value(row, place, RC_KEPT_INITIAL);
 }
 
 static uint32_t forced_of(uint32_t place)
 {
-    return value_of(place, RC_FILE_FORCED, RC_UP_MIXED);
+    return effective_value(row, place, RC_KEPT_FORCED);
 }
 
 static bool startable(uint32_t place)
@@ -184,6 +173,7 @@ static void set_value(uint32_t place, uint32_t field, uint32_t value)
     while (file_at(row, place)[field] == RC_INHERIT_PARENT && place != 0 && percent(80))
         place = file_at(row, place)[RC_FILE_PARENT];
     file_at(row, place)[field] = value;
+    fill_kept(row);
 }
 
 static bool break_rule_7(uint32_t *p, uint32_t place)

@@ -1,12 +1,13 @@
 /* Compares the proved library with the plain version, which was written from the documents: on the marked
    examples by hand, then on many random tables and calls from fixed seeds, then on every amount of head. After every call
    all words and the answer must be the same, and every answer that a kind of call can give must have come. Nights of calls
-   are made as batches and one by one.
+   are made as batches and one by one. Kept values are damaged in every way, and refreshed from directories at every depth.
    compare          everything; the last line is "compare: ok", and the status 0, exactly when all is well
    compare SCALE    the same, with so many times the random cases */
 #include "batch.h"
 #include "calls.h"
 #include "claims.h"
+#include "kept.h"
 #include "marked.h"
 #include "random.h"
 #include "rows.h"
@@ -95,22 +96,46 @@ static void ask_everything(void)
     random_call(random_kind());
 }
 
-/* Every word of the row damaged in its turn. */
+static void ask_damaged(void)
+{
+    twin_load(row);
+    twin_well_formed();
+    if (percent(10))
+        ask_everything();
+}
+
+/* Every word of the row damaged in its turn. A file's word is asked about once more with the kept values that it asks for,
+   since what is wrong with it could not show behind those that were kept before. */
 static void one_word(void)
 {
     random_row(row, DENSE, DENSE);
     for (uint32_t at = 0; at < RC_WORDS; at++) {
         uint32_t was = row[at];
+        bool of_file = at >= RC_FILES_AT && at < RC_KEPT_AT;
         damage(row, at);
-        twin_load(row);
-        twin_well_formed();
-        if (percent(10))
-            ask_everything();
+        ask_damaged();
+        if (of_file) {
+            fill_kept(row);
+            ask_damaged();
+        }
         row[at] = was;
+        if (of_file)
+            fill_kept(row);
     }
 }
 
-/* Several words, whole places or what links them; every kind is called. */
+/* Ends the program if the damaged row passes for well formed. */
+static void ask_ill_formed(const char *damaged, uint32_t way)
+{
+    twin_load(row);
+    if (twin_well_formed()) {
+        printf("DIFFERENCE: damage %" PRIu32 " to %s is well formed\n", way, damaged);
+        exit(1);
+    }
+    ask_everything();
+}
+
+/* Several words, whole places or what links them, the kept values left or following; every kind is called. */
 static void several_words(void)
 {
     random_row(row, DENSE, DENSE);
@@ -119,6 +144,8 @@ static void several_words(void)
     else
         for (uint32_t more = 2 + below(4); more > 0; more--)
             damage(row, below(RC_RIGHTS_AT));
+    if (percent(50))
+        fill_kept(row);
     for (uint32_t kind = 0; kind <= RC_CALL_REMOVE_RIGHT; kind++) {
         twin_load(row);
         random_call(kind);
@@ -126,19 +153,25 @@ static void several_words(void)
     for (uint32_t way = 0; way < LINK_DAMAGES; way++) {
         random_row(row, DENSE, DENSE);
         damage_links(row, way);
-        twin_load(row);
-        if (twin_well_formed()) {
-            printf("DIFFERENCE: damage %" PRIu32 " to links is well formed\n", way);
-            exit(1);
-        }
-        ask_everything();
+        ask_ill_formed("links", way);
+    }
+}
+
+/* The kept values alone, in every way that the tables have something for. */
+static void kept_values(void)
+{
+    for (uint32_t way = 0; way < KEPT_DAMAGES; way++) {
+        random_row(row, DENSE, DENSE);
+        if (damage_kept(row, way))
+            ask_ill_formed("kept values", way);
     }
 }
 
 static void wrong_lengths(void)
 {
-    static const size_t lengths[] = {0,    1,    319,  320,          640,          767,         768,
-                                     2303, 2304, 5120, RC_WORDS - 1, RC_WORDS + 1, RC_WORDS + TWIN_SPARE};
+    static const size_t lengths[] = {0,    1,    319,          320,          640,          767,
+                                     768,  2303, 2304,         3071,         3072,         5120,
+                                     5375, 5377, WITHOUT_KEPT, RC_WORDS - 1, RC_WORDS + 1, RC_WORDS + TWIN_SPARE};
     random_row(row, DENSE, DENSE);
     for (size_t i = 0; i < sizeof lengths / sizeof lengths[0]; i++) {
         twin_load(row);
@@ -163,6 +196,8 @@ static const struct {
     {"claims", claim_case, 300},
     {"setpoints", setpoint_case, 200},
     {"nights", night_case, 600},
+    {"damaged kept values", kept_values, 100},
+    {"refreshes", refresh_case, 400},
 };
 
 #define PARTS (sizeof parts / sizeof parts[0])
@@ -189,7 +224,7 @@ int main(int argc, char **argv)
 {
     uint64_t scale = argc > 1 ? strtoull(argv[1], NULL, 10) : 1;
     bool ok = marked_examples();
-    printf("marked examples, readings, full tables, setpoints, a night: %s\n",
+    printf("marked examples, readings, full tables, setpoints, a night, kept values: %s\n",
            ok ? "as the documents say" : "NOT as the documents say");
     for (size_t i = 0; i < PARTS; i++)
         printf("%s: seeds %" PRIu64 " to %" PRIu64 "\n", parts[i].name, first_seed(i),
@@ -202,6 +237,7 @@ int main(int argc, char **argv)
     all_roundings();
     ok &= setpoint_report();
     ok &= night_report();
+    ok &= kept_report();
     ok &= twin_report();
     printf("compare: %s\n", ok ? "ok" : "FAILED");
     return ok ? 0 : 1;

@@ -67,6 +67,7 @@ static void put_file(uint32_t place, uint32_t kind, uint32_t parent, uint32_t in
     f[RC_FILE_TYPE] = RC_INHERIT_PARENT;
     f[RC_FILE_INITIAL] = initial;
     f[RC_FILE_FORCED] = forced;
+    fill_kept(row);
 }
 
 /* Process 0 in role 3, and file 1 below the root, which it may execute. */
@@ -257,6 +258,7 @@ static void setpoints(void)
     for (uint32_t list = METRES; list <= KILOPASCALS; list++) {
         put_file(list, RC_FILE, 0, RC_INHERIT_PARENT, RC_INHERIT_PARENT);
         file_at(row, list)[RC_FILE_TYPE] = list;
+        fill_kept(row);
         add_right(RC_GROUP_FILESYSTEM, 0, list, RC_RIGHT_WRITE);
     }
     expect("setpoints", "kind of a list", m->kind(row, RC_WORDS, METRES).value, RC_FILE);
@@ -331,6 +333,71 @@ static void night(void)
     expect("night", "number, ill formed and no items", m->batch(row, RC_WORDS, calls, 0, answers, 0).number, 1);
 }
 
+/* ---- Kept values ---- W-206; file 1 is a DIR, 2 a DIR in it, 3 a FILE in that, and 4 a FILE in 1 */
+
+static void keeps(uint32_t place, uint32_t type, uint32_t initial, uint32_t forced)
+{
+    const uint32_t *kept = kept_at(row, place);
+    expect("kept", "type", kept[RC_KEPT_TYPE], type);
+    expect("kept", "initial", kept[RC_KEPT_INITIAL], initial);
+    expect("kept", "forced", kept[RC_KEPT_FORCED], forced);
+}
+
+static void make_four(void)
+{
+    fresh();
+    keeps(0, 0, RC_USE_FORCED_ROLE, RC_UP_MIXED);
+    for (uint32_t place = 1; place < RC_FILES; place++)
+        keeps(place, 0, 0, 0);
+    call(RC_CALL_ADD_RIGHT, RC_GROUP_FILESYSTEM, 0, 0, RC_RIGHT_CREATE);
+    expect("kept", "creation of 1", call(RC_CALL_CREATE, RC_DIR, 0, 0, 0), 0);
+    expect("kept", "creation of 2", call(RC_CALL_CREATE, RC_DIR, 1, 0, 0), 0);
+    expect("kept", "creation of 3", call(RC_CALL_CREATE, RC_FILE, 2, 0, 0), 0);
+    call(RC_CALL_SET_DEFAULT_TYPE, RC_DEFAULT_FILE_CREATE, 0, 6, 0);
+    expect("kept", "creation of 4", call(RC_CALL_CREATE, RC_FILE, 1, 0, 0), 0);
+    keeps(3, 0, RC_USE_FORCED_ROLE, RC_UP_MIXED);
+    keeps(4, 6, RC_USE_FORCED_ROLE, RC_UP_MIXED);
+}
+
+static void refreshes(void)
+{
+    make_four();
+    expect("kept", "number", call(RC_CALL_SET_FORCED, 2, 9, 0, 0), 0);
+    keeps(1, 0, RC_USE_FORCED_ROLE, RC_UP_MIXED);
+    keeps(2, 0, RC_USE_FORCED_ROLE, 9);
+    keeps(3, 0, RC_USE_FORCED_ROLE, 9);
+    expect("kept", "number", call(RC_CALL_SET_FORCED, 1, RC_INHERIT_USER, 0, 0), 0);
+    keeps(1, 0, RC_USE_FORCED_ROLE, RC_INHERIT_USER);
+    keeps(3, 0, RC_USE_FORCED_ROLE, 9); /* 2 has a value of its own */
+    keeps(4, 6, RC_USE_FORCED_ROLE, RC_INHERIT_USER);
+    expect("kept", "number", call(RC_CALL_SET_INITIAL, 0, 7, 0, 0), 0);
+    expect("kept", "number", call(RC_CALL_SET_TYPE, RC_GROUP_FILESYSTEM, 0, 5, 0), 0);
+    keeps(0, 5, 7, RC_UP_MIXED);
+    keeps(3, 5, 7, 9);
+    keeps(4, 6, 7, RC_INHERIT_USER);
+    expect("kept", "number", call(RC_CALL_SET_FORCED, 2, RC_INHERIT_PARENT, 0, 0), 0);
+    keeps(3, 5, 7, RC_INHERIT_USER);
+    expect("kept", "parents climbed", m->forced(row, RC_WORDS, 3).climbed, 2);
+    expect("kept", "place", m->forced(row, RC_WORDS, 3).place, 1);
+    expect("kept", "number", call(RC_CALL_SET_INITIAL, 3, RC_USE_FORCED_ROLE, 0, 0), 0);
+    keeps(3, 5, RC_USE_FORCED_ROLE, RC_INHERIT_USER);
+    keeps(2, 5, 7, RC_INHERIT_USER);
+}
+
+static void kept_wrongly(void)
+{
+    make_four();
+    call(RC_CALL_ADD_RIGHT, RC_GROUP_FILESYSTEM, 0, 6, RC_RIGHT_DELETE);
+    expect("kept", "deletion of 4", call(RC_CALL_DELETE, 4, 0, 0, 0), 0);
+    keeps(4, 0, 0, 0);
+    kept_at(row, 4)[RC_KEPT_TYPE] = 6;
+    expect("kept", "number with a free place that keeps a type", call(RC_CALL_CLONE, 0, 0, 0, 0), 1);
+    kept_at(row, 4)[RC_KEPT_TYPE] = 0;
+    kept_at(row, 3)[RC_KEPT_TYPE] = 6;
+    expect("kept", "number with a type unlike the climb", m->type(row, RC_WORDS, 3).number, 1);
+    expect("kept", "number for a row without kept values", m->fresh(row, WITHOUT_KEPT).number, 1);
+}
+
 bool marked_examples(void)
 {
     good = true;
@@ -344,6 +411,8 @@ bool marked_examples(void)
         until_full();
         setpoints();
         night();
+        refreshes();
+        kept_wrongly();
     }
     return good;
 }

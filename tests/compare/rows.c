@@ -68,6 +68,30 @@ static void random_role(uint32_t *r, enum density role_sets, uint32_t admins)
     r[RC_ROLE_IPC_CREATE] = below(RC_TYPES);
 }
 
+/* The own values of a file stand in the order of the kept ones. Circles, and parents outside the table, occur in damaged
+   trees only; such a climb has what inherit parent is at the root. */
+uint32_t effective_value(const uint32_t *row, uint32_t place, uint32_t which)
+{
+    static const uint32_t at_root[RC_KEPT_WORDS] = {0, RC_USE_FORCED_ROLE, RC_UP_MIXED};
+    for (uint32_t steps = 0; steps < RC_FILES && place < RC_FILES; steps++) {
+        const uint32_t *f = row + RC_FILES_AT + RC_FILE_WORDS * place;
+        if (f[RC_FILE_TYPE + which] != RC_INHERIT_PARENT)
+            return f[RC_FILE_TYPE + which];
+        if (place == 0)
+            break;
+        place = f[RC_FILE_PARENT];
+    }
+    return at_root[which];
+}
+
+void fill_kept(uint32_t row[RC_WORDS])
+{
+    for (uint32_t place = 0; place < RC_FILES; place++)
+        for (uint32_t which = 0; which < RC_KEPT_WORDS; which++)
+            kept_at(row, place)[which] =
+                file_at(row, place)[RC_FILE_KIND] == RC_FREE ? 0 : effective_value(row, place, which);
+}
+
 static void random_values(uint32_t *f, uint32_t inherit)
 {
     f[RC_FILE_TYPE] = plain_or(RC_INHERIT_PARENT, inherit);
@@ -75,19 +99,33 @@ static void random_values(uint32_t *f, uint32_t inherit)
     f[RC_FILE_FORCED] = percent(inherit) ? RC_INHERIT_PARENT : random_process_forced();
 }
 
+/* Where the next object of a tree goes: as a rule at any free place; but some trees go up the places one by one, so that
+   children stand behind their parents, and some go down, so that they stand before them. */
+enum order { UPWARDS, DOWNWARDS, ANYWHERE, ORDERS };
+
+static uint32_t next_place(uint32_t *row, enum order order, uint32_t made)
+{
+    switch (order) {
+    case UPWARDS: return 1 + made;
+    case DOWNWARDS: return RC_FILES - 1 - made;
+    default: return any_free(row + RC_FILES_AT, RC_FILES, RC_FILE_WORDS);
+    }
+}
+
 /* A tree: each new object goes below a directory made earlier, often below the newest, so that some trees are deep. */
 static void random_files(uint32_t *row)
 {
     uint32_t inherit = below(3) * 45 + 5, deep = below(3) * 45, files = below(3) * 30;
+    enum order order = percent(60) ? ANYWHERE : (enum order)below(ORDERS);
     uint32_t dirs[RC_FILES] = {0}, dir_count = 1;
     uint32_t *root = file_at(row, 0);
     root[RC_FILE_KIND] = RC_DIR;
     random_values(root, inherit);
-    for (uint32_t more = how_many(RC_FILES - 1); more > 0; more--) {
+    for (uint32_t made = 0, all = how_many(RC_FILES - 1); made < all; made++) {
         uint32_t parent = dirs[percent(deep) ? dir_count - 1 : below(dir_count)];
         while (file_at(row, parent)[RC_FILE_DEPTH] == RC_DEPTH_MOST)
             parent = dirs[below(dir_count)];
-        uint32_t place = any_free(row + RC_FILES_AT, RC_FILES, RC_FILE_WORDS);
+        uint32_t place = next_place(row, order, made);
         uint32_t *f = file_at(row, place);
         f[RC_FILE_KIND] = percent(files) ? RC_FILE : RC_DIR;
         f[RC_FILE_PARENT] = parent;
@@ -96,6 +134,7 @@ static void random_files(uint32_t *row)
         if (f[RC_FILE_KIND] == RC_DIR)
             dirs[dir_count++] = place;
     }
+    fill_kept(row);
 }
 
 void random_row(uint32_t row[RC_WORDS], enum density rights, enum density role_sets)
@@ -138,8 +177,9 @@ void damage_place(uint32_t row[RC_WORDS])
         uint32_t at, places, words;
     } tables[] = {{RC_PROCESSES_AT, RC_PROCESSES, RC_PROCESS_WORDS},
                   {RC_IPCS_AT, RC_IPCS, RC_IPC_WORDS},
-                  {RC_FILES_AT, RC_FILES, RC_FILE_WORDS}};
-    uint32_t which = below(3), words = tables[which].words, places = tables[which].places;
+                  {RC_FILES_AT, RC_FILES, RC_FILE_WORDS},
+                  {RC_KEPT_AT, RC_FILES, RC_KEPT_WORDS}};
+    uint32_t which = below(4), words = tables[which].words, places = tables[which].places;
     uint32_t *table = row + tables[which].at, *place = table + words * (percent(20) ? 0 : below(places));
     if (percent(50))
         memset(place, 0, words * sizeof(uint32_t));
@@ -153,7 +193,19 @@ static void put_file(uint32_t *row, uint32_t place, uint32_t kind, uint32_t pare
     f[RC_FILE_KIND] = kind;
     f[RC_FILE_PARENT] = parent;
     f[RC_FILE_DEPTH] = depth;
-    f[RC_FILE_TYPE] = f[RC_FILE_INITIAL] = f[RC_FILE_FORCED] = RC_INHERIT_PARENT;
+    random_values(f, below(3) * 50);
+}
+
+/* A FILE whose parent is one past the table. The kind, parent and depth there are the kept values of the root, and those
+   are made to look like the root itself. */
+static void put_past_table(uint32_t *row, uint32_t place)
+{
+    _Static_assert(RC_FILES_AT + RC_FILE_WORDS * RC_FILES == RC_KEPT_AT, "the kept values are just past the files");
+    uint32_t *root = file_at(row, 0);
+    root[RC_FILE_TYPE] = RC_DIR;
+    root[RC_FILE_INITIAL] = root[RC_FILE_FORCED] = 0;
+    put_file(row, place, RC_FILE, RC_FILES, 1);
+    random_values(file_at(row, place), 0);
 }
 
 void damage_links(uint32_t row[RC_WORDS], uint32_t way)
@@ -197,12 +249,12 @@ void damage_links(uint32_t row[RC_WORDS], uint32_t way)
     case 9: /* no root */
         memset(row + RC_FILES_AT, 0, RC_FILES * RC_FILE_WORDS * sizeof(uint32_t));
         break;
-    case 10: /* a parent just past the table, where the rights look like the root */
-        put_file(row, x, RC_FILE, RC_FILES, 1);
-        memmove(row + RC_RIGHTS_AT, file_at(row, 0), RC_FILE_WORDS * sizeof(uint32_t));
+    case 10: /* a parent just past the table */
+        put_past_table(row, x);
         break;
     default: /* no process 0 */
         memset(process_at(row, 0), 0, RC_PROCESS_WORDS * sizeof(uint32_t));
         break;
     }
+    fill_kept(row);
 }

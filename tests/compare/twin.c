@@ -146,7 +146,8 @@ static const struct {
 } table[] = {
     {"process", RC_PROCESSES_AT, RC_PROCESS_WORDS}, {"user", RC_USERS_AT, RC_USER_WORDS},
     {"role", RC_ROLES_AT, RC_ROLE_WORDS},           {"IPC object", RC_IPCS_AT, RC_IPC_WORDS},
-    {"file", RC_FILES_AT, RC_FILE_WORDS},           {"rights of group and role", RC_RIGHTS_AT, RC_TYPES},
+    {"file", RC_FILES_AT, RC_FILE_WORDS},           {"values kept of file", RC_KEPT_AT, RC_KEPT_WORDS},
+    {"rights of group and role", RC_RIGHTS_AT, RC_TYPES},
 };
 
 static void print_word(uint32_t at)

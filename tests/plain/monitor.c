@@ -88,6 +88,13 @@ static uint32_t type_of(const struct tables *t, uint32_t group, uint32_t object)
     }
 }
 
+/* W-206: a value that was set counts for whatever inherits it, so every place is worked out anew. */
+static void keep_all(struct tables *t)
+{
+    for (uint32_t place = 0; place < RC_FILES; place++)
+        keep(t, place);
+}
+
 /* ---- Process calls ---- */
 
 static struct rc_answer access_object(const struct tables *t, const struct process *p, uint32_t group, uint32_t object,
@@ -193,6 +200,7 @@ static struct rc_answer create_file(struct tables *t, const struct process *p, u
                                        .type = t->role[p->role].file_create,
                                        .initial = RC_INHERIT_PARENT,
                                        .forced = RC_INHERIT_PARENT};
+        keep(t, place);
         return grant(place);
     }
     return refuse(RC_FULL);
@@ -215,6 +223,7 @@ static struct rc_answer delete_file(struct tables *t, const struct process *p, u
     if (file == ROOT || (t->file[file].kind == RC_DIR && has_children(t, file)))
         return refuse(RC_NOT_REMOVABLE);
     t->file[file] = (struct file){0};
+    keep(t, file);
     return grant(0);
 }
 
@@ -287,6 +296,7 @@ static struct rc_answer set_initial(struct tables *t, const struct process *p, u
     if (!may_assign_role(t, p, RC_GROUP_FILESYSTEM, file, value))
         return refuse(RC_NOT_ALLOWED);
     t->file[file].initial = value;
+    keep_all(t);
     return grant(0);
 }
 
@@ -297,6 +307,7 @@ static struct rc_answer set_forced(struct tables *t, const struct process *p, ui
     if (!may_assign_role(t, p, RC_GROUP_FILESYSTEM, file, value))
         return refuse(RC_NOT_ALLOWED);
     t->file[file].forced = value;
+    keep_all(t);
     return grant(0);
 }
 
@@ -352,7 +363,10 @@ static struct rc_answer set_type(struct tables *t, const struct process *p, uint
             return refuse(RC_NOT_ALLOWED);
     }
     switch (group) {
-    case RC_GROUP_FILESYSTEM: t->file[object].type = value; break;
+    case RC_GROUP_FILESYSTEM:
+        t->file[object].type = value;
+        keep_all(t);
+        break;
     case RC_GROUP_PROCESS: t->process[object].type = value; break;
     default: t->ipc[object].type = value; break;
     }

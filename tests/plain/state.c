@@ -35,6 +35,14 @@ static bool file_ok(const struct tables *t, uint32_t place)
     return t->file[f->parent].kind == RC_DIR && f->depth == t->file[f->parent].depth + 1;
 }
 
+/* W-206; to be asked once all files are right, for only then does every climb end. */
+static bool kept_ok(const struct tables *t, uint32_t place)
+{
+    const struct kept *k = &t->kept[place];
+    struct kept climbed = kept_of(t, place);
+    return k->type == climbed.type && k->initial == climbed.initial && k->forced == climbed.forced;
+}
+
 bool plain_well_formed(const uint32_t *tables, size_t words)
 {
     if (words != RC_WORDS)
@@ -57,6 +65,9 @@ bool plain_well_formed(const uint32_t *tables, size_t words)
     for (uint32_t f = 0; f < RC_FILES; f++)
         if (!file_ok(t, f))
             return false;
+    for (uint32_t f = 0; f < RC_FILES; f++)
+        if (!kept_ok(t, f))
+            return false;
     return true;
 }
 
@@ -76,6 +87,7 @@ struct rc_answer plain_fresh(uint32_t *tables, size_t words)
     t->process[0] = (struct process){.live = 1, .forced = RC_UP_MIXED};
     t->file[ROOT] = (struct file){
         .kind = RC_DIR, .type = RC_INHERIT_PARENT, .initial = RC_INHERIT_PARENT, .forced = RC_INHERIT_PARENT};
+    keep(t, ROOT);
     return (struct rc_answer){RC_GRANTED, 0};
 }
 

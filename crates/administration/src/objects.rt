@@ -3,13 +3,13 @@ use caller::may;
 use caller::may_assign;
 use caller::passes;
 use decisions::decide_word;
-use effective::type_of;
-use effective::values::value_at;
+use kept::type_of;
 use model::Answer;
 use model::layout::FILE_TYPE;
 use model::layout::FORCED;
 use model::layout::INITIAL;
 use model::layout::IPC_TYPE;
+use model::layout::KEPT_TYPE;
 use model::layout::PARENT;
 use model::layout::PROCESS_FORCED;
 use model::layout::PROCESS_TYPE;
@@ -27,10 +27,12 @@ use tables::addresses::ipc_addr;
 use tables::addresses::process_addr;
 use tables::places::occupied;
 use tables::records::file_word;
+use tables::records::kept_at;
 ghost use mathlib.Core.Path.{_≡_};
 ghost use Rattle.model.specs.declared.Change.{Change};
 ghost use Rattle.model.specs.Outcome.{outcome, carryOut};
 ghost use Rattle.model.specs.Administration.{assignRoleNo, inherited as inheritedOf, assignedType, setTypeNo, typeAddr, rulingOn};
+ghost use Rattle.administration.specs.Written.{writingOn};
 
 // Rules 27, 28 and 29: a role that own role assigns, on an object that it may modify (H7: a special value is in no role set).
 fn assign_role_no(t: &[u32], caller: u32, group: u32, object: u32, value: u32) -> u32
@@ -54,7 +56,7 @@ fn assign_role_no(t: &[u32], caller: u32, group: u32, object: u32, value: u32) -
 
 // A file's initial value (rule 27).
 pub fn set_initial(t: &mut [u32], caller: u32, file: u32, value: u32) -> Answer
-    ensures { λ r. ⌜ outcome r (now (t .exit)) ≡ carryOut (now (t .entry)) (rulingOn (now (t .entry)) caller (Change.SetInitial file value)) ⌝ }
+    ensures { λ r. ⌜ outcome r (now (t .exit)) ≡ carryOut (now (t .entry)) (writingOn (now (t .entry)) caller (Change.SetInitial file value)) ⌝ }
 {
     let number = assign_role_no(t, caller, FILESYSTEM, file, value);
     decide_word(t, number, file_addr(file) + (INITIAL as usize), value)
@@ -62,7 +64,7 @@ pub fn set_initial(t: &mut [u32], caller: u32, file: u32, value: u32) -> Answer
 
 // A file's forced value (rule 28).
 pub fn set_forced(t: &mut [u32], caller: u32, file: u32, value: u32) -> Answer
-    ensures { λ r. ⌜ outcome r (now (t .exit)) ≡ carryOut (now (t .entry)) (rulingOn (now (t .entry)) caller (Change.SetForced file value)) ⌝ }
+    ensures { λ r. ⌜ outcome r (now (t .exit)) ≡ carryOut (now (t .entry)) (writingOn (now (t .entry)) caller (Change.SetForced file value)) ⌝ }
 {
     let number = assign_role_no(t, caller, FILESYSTEM, file, value);
     decide_word(t, number, file_addr(file) + (FORCED as usize), value)
@@ -83,7 +85,7 @@ fn inherited(t: &[u32], file: u32) -> u32
     if file == ROOT {
         ROOT_TYPE
     } else {
-        value_at(t, FILE_TYPE, file_word(t, file, PARENT))
+        kept_at(t, KEPT_TYPE, file_word(t, file, PARENT))
     }
 }
 
@@ -131,7 +133,7 @@ fn set_type_no(t: &[u32], caller: u32, group: u32, object: u32, value: u32) -> u
 
 // An object's type (rule 32, H10).
 pub fn set_type(t: &mut [u32], caller: u32, group: u32, object: u32, value: u32) -> Answer
-    ensures { λ r. ⌜ outcome r (now (t .exit)) ≡ carryOut (now (t .entry)) (rulingOn (now (t .entry)) caller (Change.SetType group object value)) ⌝ }
+    ensures { λ r. ⌜ outcome r (now (t .exit)) ≡ carryOut (now (t .entry)) (writingOn (now (t .entry)) caller (Change.SetType group object value)) ⌝ }
 {
     let number = set_type_no(t, caller, group, object, value);
     decide_word(t, number, type_addr(group, object), value)

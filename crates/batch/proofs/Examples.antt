@@ -12,8 +12,8 @@ use Rattle.model.specs.Outcome.{Outcome, refusing}
 use Rattle.model.specs.Fresh.{fresh}
 use Rattle.model.specs.WellFormed.{wellFormed}
 use Rattle.model.specs.Words.{block, put}
+use Rattle.model.proofs.FreshFormed.{fresh-formed}
 use Rattle.marked.proofs.Computing.{acting, step-acting}
-use Rattle.marked.proofs.Fresh.{fresh-ok}
 use Rattle.kinds.specs.declared.Decoded.{Decoded}
 use Rattle.kinds.specs.Kinds.{CALL-ACCESS, CALL-ADD-RIGHT, CALL-CLONE, CALL-EXIT, decodeOf, takes, written}
 use Rattle.kinds.proofs.ByKind.{done-written}
@@ -93,6 +93,6 @@ pub a-night : (batch fresh night slots .answer .number ≡ 0)
     ≡ 5 ∷ 0 ∷ 0 ∷ 0 ∷ 0 ∷ 0 ∷ 0 ∷ 1 ∷ 0 ∷ 0 ∷ 0 ∷ 1 ∷ 2 ∷ 0 ∷ 2 ∷ 0 ∷ 3 ∷ 0 ∷ 2 ∷ 0 ∷ 6 ∷ 0 ∷ 255 ∷ [])
 unfolding batchNo
 a-night =
-    let granted : batchNo fresh night slots ≡ 0 = rw fresh-ok (unfold night slots in refl) in
+    let granted : batchNo fresh night slots ≡ 0 = rw fresh-formed (unfold night slots in refl) in
     rw (batch-granted fresh night slots granted)
-    (refl, ap (λ (b : Both). b .1) (after-ran fresh night slots (items night) fresh-ok) ∙ (unfold ran fresh night slots in refl))
+    (refl, ap (λ (b : Both). b .1) (after-ran fresh night slots (items night) fresh-formed) ∙ (unfold ran fresh night slots in refl))

@@ -6,6 +6,7 @@ use model::numbers::DEFAULT_TYPES;
 use model::numbers::DIR;
 use model::numbers::FILE;
 use model::numbers::FILES;
+use model::numbers::FILESYSTEM;
 use model::numbers::GROUPS;
 use model::numbers::IPCS;
 use model::numbers::PROCESSES;
@@ -77,6 +78,9 @@ fn ranged_change(change: Change) -> bool
 pub fn ranged_access(group: u32, object: u32, right: u32) -> bool
     ensures { λ r. ⌜ r ≡ rangedOf (Call.Access group object right) ⌝ }
 {
+    if group == FILESYSTEM {
+        return (object < FILES) & (right < ADMIN);
+    }
     (group < GROUPS) & (object < places(group)) & (right < ADMIN)
 }
 

@@ -4,17 +4,17 @@ use claimsets::EVERY_ROLE;
 use claimsets::births;
 use claimsets::closed;
 use claimsets::reach;
-use effective::values::FORCED_VALUE;
-use effective::values::INITIAL_VALUE;
-use effective::values::VALUES;
-use effective::values::values;
 use model::layout::CLAIM_PROCESS;
+use model::layout::KEPT_FORCED;
+use model::layout::KEPT_INITIAL;
+use model::layout::KEPT_TYPE;
 use model::layout::KIND;
 use model::numbers::CHANGE_OWNER;
 use model::numbers::DIR;
 use model::numbers::EXECUTE;
 use model::numbers::FILES;
 use model::numbers::FILESYSTEM;
+use model::numbers::FREE;
 use model::numbers::INHERIT_USER;
 use model::numbers::PROCESS;
 use model::numbers::UP_MIXED;
@@ -26,53 +26,49 @@ use tables::cases::forced_word;
 use tables::claim::process_types_in;
 use tables::claim::roles_in;
 use tables::claim::types_in;
-use tables::places::occupied;
 use tables::records::file_word;
+use tables::records::kept_at;
 use tables::records::process_at;
 use tables::records::user_role;
 use tables::words::word;
 ghost use mathlib.Core.Path.{_≡_};
 ghost use Rattle.model.specs.Claims.{ownForced};
-ghost use Rattle.effective.specs.Known.{HoldsAll};
-ghost use Rattle.claims.specs.Parts.{holdsBy, C6By, carries, C8By, everyUser, C9By, byFiles};
+ghost use Rattle.claims.specs.Parts.{lastClosed, holdsBy, carriedAlone, carriedWith, C8By, everyUser, C9By, byCarried, byFiles};
 
-// What a walk over the files finds: whether all plain values are in S (C7), and which special values are carried.
+// What is carried so far: whether all plain values are in S (C7), which special values there are, and the two values that were found last.
 pub struct Carried {
     pub plain: bool,
     pub user: bool,
     pub mixed: bool,
+    pub initial: u32,
+    pub forced: u32,
 }
 
-// C6 of a place: T of a free place is empty; T(o) holds o's effective type, which is handed in; a DIR's holds what is created in it.
-fn holds(row: [u32; 32], rctype: u32, t: &[u32], w: &[u32], o: u32) -> bool
-    ensures { λ r. ⌜ r ≡ holdsBy row rctype (now (t .entry)) (now (w .entry)) o ⌝ }
+// The last set that was found closed: of a DIR these types where they are, and else the one known before. A set that is known is not closed again.
+fn last_closed(row: [u32; 32], known: RoleSet, kind: u32, types: RoleSet) -> RoleSet
+    ensures { λ r. ⌜ r .bits ≡ lastClosed row (known .bits) kind (types .bits) ⌝ }
 {
-    let types = types_in(w, o);
-    if !occupied(t, FILESYSTEM, o) {
+    if kind != DIR {
+        return known;
+    }
+    if types.bits == known.bits {
+        return known;
+    }
+    if closed(row, types) { types } else { known }
+}
+
+// C6 of a place: T of a free place is empty; T(o) holds o's effective type; that of a DIR is the last set found closed.
+fn holds(t: &[u32], o: u32, kind: u32, types: RoleSet, known: RoleSet) -> bool
+    ensures { λ r. ⌜ r ≡ holdsBy (now (t .entry)) o kind (types .bits) (known .bits) ⌝ }
+{
+    if kind == FREE {
         return types.bits == 0;
     }
-    let own = types.has(rctype);
-    if file_word(t, o, KIND) != DIR {
+    let own = types.has(kept_at(t, KEPT_TYPE, o));
+    if kind != DIR {
         return own;
     }
-    own & closed(row, types)
-}
-
-// C6, where those that create are the roles of a set.
-fn c6(known: &[u32], t: &[u32], w: &[u32], roles: RoleSet) -> bool
-    requires { ⌜ HoldsAll (now known) (now t) ⌝ }
-    ensures { λ r. ⌜ r ≡ C6By (now (t .entry)) (now (w .entry)) (roles .bits) ⌝ }
-{
-    let row = births(t, roles);
-    let mut o: u32 = 0;
-    while o < FILES {
-        let rctype = word(known, VALUES * (o as usize));
-        if !holds(row, rctype, t, w, o) {
-            return false;
-        }
-        o += 1;
-    }
-    true
+    own & (types.bits == known.bits)
 }
 
 // The process's forced value.
@@ -83,29 +79,33 @@ fn own_forced(t: &[u32], w: &[u32]) -> u32
     forced_word(forced)
 }
 
-// C7, and what C8 and C9 ask: a value is carried by the process itself or by an object that a role in S can start.
-fn all_carried(known: &[u32], t: &[u32], w: &[u32]) -> Carried
-    requires { ⌜ HoldsAll (now known) (now t) ⌝ }
-    ensures { λ r. ⌜ r ≡ carries (now (t .entry)) (now (w .entry)) ⌝ }
+// What the process carries by itself.
+fn carried_alone(s: RoleSet, own: u32) -> Carried
+    ensures { λ r. ⌜ r ≡ carriedAlone (s .bits) own ⌝ }
 {
-    let s = roles_in(w);
-    let started = reach(t, s, FILESYSTEM, EXECUTE);
-    let own = own_forced(t, w);
-    let mut plain = plain_in(s, own);
-    let mut user = own == INHERIT_USER;
-    let mut mixed = own == UP_MIXED;
-    let mut o: u32 = 0;
-    while o < FILES {
-        if types_in(w, o).meets(started) {
-            let initial = word(known, VALUES * (o as usize) + INITIAL_VALUE);
-            let forced = word(known, VALUES * (o as usize) + FORCED_VALUE);
-            plain = plain & plain_in(s, initial) & plain_in(s, forced);
-            user = user | (forced == INHERIT_USER);
-            mixed = mixed | (forced == UP_MIXED);
-        }
-        o += 1;
+    Carried {
+        plain: plain_in(s, own),
+        user: own == INHERIT_USER,
+        mixed: own == UP_MIXED,
+        initial: own,
+        forced: own,
     }
-    Carried { plain, user, mixed }
+}
+
+// And with an object that a role in S can start; values that were found last add nothing.
+fn carried_with(found: Carried, s: RoleSet, initial: u32, forced: u32) -> Carried
+    ensures { λ r. ⌜ r ≡ carriedWith found (s .bits) initial forced ⌝ }
+{
+    if (initial == found.initial) & (forced == found.forced) {
+        return found;
+    }
+    Carried {
+        plain: found.plain & plain_in(s, initial) & plain_in(s, forced),
+        user: found.user | (forced == INHERIT_USER),
+        mixed: found.mixed | (forced == UP_MIXED),
+        initial,
+        forced,
+    }
 }
 
 // C8: if inherit user is carried, the default role of the process's owner is in S.
@@ -139,19 +139,42 @@ fn c9(t: &[u32], w: &[u32], s: RoleSet, follows: bool) -> bool
     !process_types_in(w).meets(reach(t, s, PROCESS, CHANGE_OWNER))
 }
 
-// The first of the rules 6 to 9 that is broken. An outsider may create too, so C6 counts all 32 roles; one walk over the files serves the last
-// three. The effective values are worked out once for both walks.
-pub fn by_files(t: &[u32], w: &[u32]) -> u32
-    ensures { λ r. ⌜ r ≡ byFiles (now (t .entry)) (now (w .entry)) ⌝ }
+// The first of the rules 7 to 9 that is broken, where it is known what is carried.
+fn by_carried(t: &[u32], w: &[u32], s: RoleSet, found: Carried) -> u32
+    ensures { λ r. ⌜ r ≡ byCarried (now (t .entry)) (now (w .entry)) (s .bits) found ⌝ }
 {
-    let s = roles_in(w);
-    let known = values(t);
-    if !c6(&known, t, w, RoleSet { bits: EVERY_ROLE }) {
-        return 6;
-    }
-    let found = all_carried(&known, t, w);
     let seven = unless(7, found.plain);
     let eight = unless(8, c8(t, w, s, found.user));
     let nine = unless(9, c9(t, w, s, found.user | found.mixed));
     first(seven, first(eight, nine))
+}
+
+// The first of the rules 6 to 9 that is broken, by one walk over the files. An outsider may create too, so C6 counts all 32 roles.
+pub fn by_files(t: &[u32], w: &[u32]) -> u32
+    ensures { λ r. ⌜ r ≡ byFiles (now (t .entry)) (now (w .entry)) ⌝ }
+{
+    let s = roles_in(w);
+    let started = reach(t, s, FILESYSTEM, EXECUTE);
+    let row = births(t, RoleSet { bits: EVERY_ROLE });
+    let mut known = RoleSet { bits: 0 };
+    let mut found = carried_alone(s, own_forced(t, w));
+    let mut o: u32 = 0;
+    while o < FILES {
+        let types = types_in(w, o);
+        let kind = file_word(t, o, KIND);
+        known = last_closed(row, known, kind, types);
+        if !holds(t, o, kind, types, known) {
+            return 6;
+        }
+        if types.meets(started) {
+            found = carried_with(
+                found,
+                s,
+                kept_at(t, KEPT_INITIAL, o),
+                kept_at(t, KEPT_FORCED, o),
+            );
+        }
+        o += 1;
+    }
+    by_carried(t, w, s, found)
 }

@@ -2,7 +2,7 @@
 -- may change places, and a union of sets is tested by one word.
 use Prim.Native.Nat.{ℕ, zero, suc, _+_, _<_}
 use mathlib.Core.Path.{_≡_, refl, sym, ap, _∙_}
-use mathlib.Core.Bool.{true, cond, not, _&&_, _||_}
+use mathlib.Core.Bool.{true, false, cond, not, _&&_, _||_}
 use mathlib.Core.List.{List}
 use mathlib.Core.Logic.{⊎-elim}
 use native.Mathlib.Nat.{add-zero, not-suc-le-zero, le-of-suc-le-suc}
@@ -12,9 +12,9 @@ use lib.Dec.{leb, eqb}
 use lib.ListN.{length}
 use lib.Seq.{ext-getD}
 use Rattle.sets.specs.Below.{allBelow, someBelow}
-use Rattle.sets.specs.Sets.{has, added, inside, meets, union}
+use Rattle.sets.specs.Sets.{has, added, inside, meets, joined, union}
 use Rattle.sets.proofs.Below.{by-bool, same-truth, lt-or-le, both, left, right, either, all-at, all-of, some-at, some-of}
-use Rattle.sets.proofs.Sets.{empty-has, has-bound, added-same, added-other, inside-at, inside-of, meets-at, meets-of, has-collect, has-union, union-none}
+use Rattle.sets.proofs.Sets.{empty-has, has-bound, added-same, added-other, inside-at, inside-of, meets-at, meets-of, has-collect, has-union, union-none, union-next}
 use Rattle.model.specs.Numbers.{FILESYSTEM, CREATE}
 use Rattle.model.specs.Words.{_!_}
 use Rattle.model.specs.Layout.{rightsAddr}
@@ -48,6 +48,18 @@ module _ (f : ℕ → ℕ) where
 
 pub row-same : (f g : ℕ → ℕ) → ((i : ℕ) → i < 32 → f i ≡ g i) → rowOf f ≡ rowOf g
 row-same f g h = is-row g (rowOf f) (row-length f) (λ i l. row-at f i l ∙ h i l)
+
+-- ---- a row to each word of which the members of a set below r have added theirs
+
+module _ (s : ℕ) (f : ℕ → ℕ → ℕ) where
+  pub none-added : rowOf (λ k. 0) ≡ rowOf (λ k. union 0 s (f k))
+  none-added = row-same (λ k. 0) (λ k. union 0 s (f k)) (λ k l. sym (union-none s (f k)))
+
+  pub one-added : (r : ℕ) → has s r ≡ true → rowOf (λ k. joined (rowOf (λ k. union r s (f k)) ! k) (f k r)) ≡ rowOf (λ k. union (r + 1) s (f k))
+  one-added r e = row-same _ _ (λ k l. rw (row-at (λ k. union r s (f k)) k l, union-next, e))
+
+  pub none-more : (r : ℕ) → has s r ≡ false → rowOf (λ k. union r s (f k)) ≡ rowOf (λ k. union (r + 1) s (f k))
+  none-more r e = row-same _ _ (λ k l. rw (union-next, e))
 
 -- ---- the types that a set of roles reaches
 
@@ -114,10 +126,6 @@ module _ (t : List ℕ) where
         left (hasRight t FILESYSTEM (r .0) k CREATE) (eqb (roleAt t (r .0) .filecreate) v) h,
         eqb-true _ _ (right (hasRight t FILESYSTEM (r .0) k CREATE) (eqb (roleAt t (r .0) .filecreate) v) h),
       )
-
-  -- no role creates nothing
-  pub no-births : (s : ℕ) → rowOf (λ k. 0) ≡ rowOf (λ k. union 0 s (bears t k))
-  no-births s = row-same (λ k. 0) (λ k. union 0 s (bears t k)) (λ k l. sym (union-none s (bears t k)))
 
   -- C6 for a DIR: what all roles create below the types in T(o) is in T(o)
   pub births-closed : (w : List ℕ) (o : ℕ) → createsInside t w o ≡ closed (rowOf (born t EVERY-ROLE)) (T w o)

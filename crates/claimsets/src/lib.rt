@@ -7,39 +7,67 @@ use sets::RoleSet;
 use tables::addresses::rights_addr;
 use tables::records::has_right;
 use tables::records::role_at;
-use tables::words::set_at;
 ghost use mathlib.Core.Path.{_≡_};
 ghost use lib.ListN.{length};
 ghost use Rattle.sets.specs.Sets.{joined};
 ghost use Rattle.model.specs.Words.{_!_};
+ghost use Rattle.model.specs.Layout.{rightsAddr};
 ghost use Rattle.claimsets.specs.Family.{rightsTo, reach as reachOf, birth as birthOf, bears, born, rowOf, closed as closedOf};
 
 // The set of all 32 roles.
 pub const EVERY_ROLE: u32 = 0xffff_ffff;
 
-// The rights that a role of the set has to a type of a group.
-pub fn rights_to(t: &[u32], roles: RoleSet, group: u32, rctype: u32) -> RoleSet
-    ensures { λ r. ⌜ r .bits ≡ rightsTo (now (t .entry)) (roles .bits) group rctype ⌝ }
+// A row of sets, one for each type, gets the sets of another, as far as that goes.
+fn join_row(row: &mut [u32], other: &[u32])
+    requires { ⌜ length (now row) ≡ 32 ⌝ }
+    ensures { λ _. ⌜ now (row .exit) ≡ rowOf (λ k. joined (now (row .entry) ! k) (now (other .entry) ! k)) ⌝ }
 {
-    let mut all = RoleSet { bits: 0 };
+    let mut k = 0;
+    while (k < 32) & (k < other.len()) {
+        let before = RoleSet { bits: row[k] };
+        row[k] = before.join(RoleSet { bits: other[k] }).bits;
+        k += 1;
+    }
+}
+
+// It gets the rights that a role has to each type of a group.
+fn join_rights(row: &mut [u32], t: &[u32], group: u32, role: u32)
+    requires { ⌜ length (now row) ≡ 32 ⌝ }
+    ensures { λ _. ⌜ now (row .exit) ≡ rowOf (λ k. joined (now (row .entry) ! k) (now (t .entry) ! rightsAddr group role k)) ⌝ }
+{
+    let a = rights_addr(group, role, 0);
+    if a < t.len() {
+        join_row(row, &t[a..]);
+    }
+}
+
+// The rights that roles of the set have to each of the 32 types of a group.
+fn rights_of(t: &[u32], roles: RoleSet, group: u32) -> [u32; 32]
+    ensures { λ r. ⌜ r ≡ rowOf (rightsTo (now (t .entry)) (roles .bits) group) ⌝ }
+{
+    let mut row = [0u32; 32];
     let mut r: u32 = 0;
     while r < ROLES {
         if roles.has(r) {
-            all = all.join(set_at(t, rights_addr(group, r, rctype)));
+            join_rights(&mut row, t, group, r);
         }
         r += 1;
     }
-    all
+    row
 }
 
 // The types of a group to which a role of the set has the right.
 pub fn reach(t: &[u32], roles: RoleSet, group: u32, right: u32) -> RoleSet
     ensures { λ r. ⌜ r .bits ≡ reachOf (now (t .entry)) (roles .bits) group right ⌝ }
 {
+    let row = rights_of(t, roles, group);
     let mut types = RoleSet { bits: 0 };
     let mut k: u32 = 0;
     while k < TYPES {
-        if rights_to(t, roles, group, k).has(right) {
+        let rights = RoleSet {
+            bits: row[k as usize],
+        };
+        if rights.has(right) {
             types = types.add(k);
         }
         k += 1;

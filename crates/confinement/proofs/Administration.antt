@@ -14,16 +14,15 @@ use Rattle.sets.specs.Sets.{has}
 use Rattle.sets.proofs.Sets.{empty-has}
 use Rattle.model.specs.declared.Change.{Change}
 use Rattle.model.specs.Numbers.{GROUPS, FILES, TYPES, INHERIT-PARENT, ASSIGN, places, COMPATIBLE-ROLES, FILESYSTEM, PROCESS, ROOT-TYPE, isRoot}
-use Rattle.model.specs.Layout.{FILE-TYPE, PARENT}
+use Rattle.model.specs.Layout.{KEPT-TYPE, PARENT}
 use Rattle.model.specs.Ranges.{okTypeIn, rangedChange}
-use Rattle.model.specs.Records.{processAt, fileWord, roleAt}
-use Rattle.model.specs.Effective.{valueAt}
+use Rattle.model.specs.Records.{processAt, fileWord, keptAt, roleAt}
 use Rattle.model.specs.Calls.{ownRole, may}
 use Rattle.model.specs.Administration.{passes, mayAssign, mayAdmin, inherited, assignedType, changeSetNo, setUserRoleNo, assignRoleNo, changeRightNo, rightNeeded, rulingOn, roleAdminNo}
 use Rattle.model.specs.Claims.{S}
 use Rattle.model.specs.Runs.{Family}
 use Rattle.model.proofs.Records.{by-cond, by-group}
-use Rattle.model.proofs.Effective.{type-range}
+use Rattle.model.proofs.KeptValues.{kept-type-range}
 use Rattle.model.proofs.Decided.{tested}
 use Rattle.model.proofs.Granted.{passes-by, assign-role-granted, set-type-granted}
 use Rattle.model.proofs.Formed.{WellFormed, parent-dir, dir-occupied}
@@ -38,8 +37,8 @@ module _ (t : List ℕ) (formed : WellFormed t) where
   inherited-plain : (o : ℕ) → o < FILES → inherited t o < TYPES
   unfolding inherited
   inherited-plain o l =
-      by-cond (λ k. k < TYPES) (isRoot o) ROOT-TYPE (valueAt t FILE-TYPE (fileWord t o PARENT)) (λ e. omega arith)
-      (λ e. let p = parent-dir t formed o l in type-range t formed (fileWord t o PARENT) (p .0) (dir-occupied t (fileWord t o PARENT) (p .1)))
+      by-cond (λ k. k < TYPES) (isRoot o) ROOT-TYPE (keptAt t KEPT-TYPE (fileWord t o PARENT)) (λ e. omega arith)
+      (λ e. let p = parent-dir t (formed .formed) o l in kept-type-range t formed (fileWord t o PARENT) (p .0) (dir-occupied t (fileWord t o PARENT) (p .1)))
 
   -- only a file may be asked to inherit
   assigned-plain : (g o v : ℕ) → g < GROUPS → o < places g → okTypeIn g v ≡ true → assignedType t o v < TYPES

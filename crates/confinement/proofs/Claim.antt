@@ -13,10 +13,9 @@ use Rattle.sets.specs.Sets.{has}
 use Rattle.sets.proofs.Below.{both, either, which, all-at, some-of}
 use Rattle.sets.proofs.Sets.{has-bound, inside-at}
 use Rattle.model.specs.Numbers.{GROUPS, FILESYSTEM, PROCESS, PROCESSES, FILES, ROLES, USERS, TYPES, DIR, INHERIT-PARENT, INHERIT-USER, UP-MIXED, WRITE, EXECUTE, CREATE, DELETE, CHANGE-OWNER, ASSIGN}
-use Rattle.model.specs.Layout.{FILE-TYPE, FORCED, INITIAL, KIND}
-use Rattle.model.specs.Records.{processAt, fileWord, roleAt, userRole, hasRight, occupied}
+use Rattle.model.specs.Layout.{KEPT-FORCED, KEPT-INITIAL, KEPT-TYPE, KIND}
+use Rattle.model.specs.Records.{processAt, fileWord, keptAt, roleAt, userRole, hasRight, occupied}
 use Rattle.model.specs.WellFormed.{wellFormed}
-use Rattle.model.specs.Effective.{valueAt}
 use Rattle.model.specs.Claims.{processIn, typeIn, S, Q, T, toSome, someRoleTo, plainIn, startable, ownForced, carried, assignsNothing, createsInside, holds, starts, C1, C2, C3, C4, C5, C6, C7, C8, C9, broken, claimNo, verdict, check, powerless, spares}
 use Rattle.model.specs.Runs.{changes}
 use Rattle.model.proofs.Decided.{tested}
@@ -68,12 +67,12 @@ pub carried-own : (t w : List ℕ) → carried t w (ownForced t w) ≡ true
 unfolding carried
 carried-own t w = rw (eq-eqb (ownForced t w) (ownForced t w) refl)
 
-pub carried-by : (t w : List ℕ) (o : ℕ) → o < FILES → startable t w o ≡ true → carried t w (valueAt t FORCED o) ≡ true
+pub carried-by : (t w : List ℕ) (o : ℕ) → o < FILES → startable t w o ≡ true → carried t w (keptAt t KEPT-FORCED o) ≡ true
 unfolding carried
 carried-by t w o l h =
-    let v = valueAt t FORCED o in
-    either (eqb (ownForced t w) v) (someBelow FILES (λ o. startable t w o && eqb (valueAt t FORCED o) v))
-    (some-of (λ o. startable t w o && eqb (valueAt t FORCED o) v) FILES o l (both (startable t w o) (eqb (valueAt t FORCED o) v) h (eq-eqb v v refl)))
+    let v = keptAt t KEPT-FORCED o in
+    either (eqb (ownForced t w) v) (someBelow FILES (λ o. startable t w o && eqb (keptAt t KEPT-FORCED o) v))
+    (some-of (λ o. startable t w o && eqb (keptAt t KEPT-FORCED o) v) FILES o l (both (startable t w o) (eqb (keptAt t KEPT-FORCED o) v) h (eq-eqb v v refl)))
 
 -- ---- the facts, rule by rule
 
@@ -99,13 +98,13 @@ pub record Accepted (t w : List ℕ) : Type 0 where
   pub execute : (r : ℕ) → has (S w) r ≡ true → PlainIn (Q w) (roleAt t r .execute)
   pub chown : (r : ℕ) → has (S w) r ≡ true → PlainIn (Q w) (roleAt t r .chown)
   -- C6
-  pub ownType : (o : ℕ) → o < FILES → occupied t FILESYSTEM o ≡ true → has (T w o) (valueAt t FILE-TYPE o) ≡ true
+  pub ownType : (o : ℕ) → o < FILES → occupied t FILESYSTEM o ≡ true → has (T w o) (keptAt t KEPT-TYPE o) ≡ true
   pub createdType : (o r k : ℕ) → o < FILES → fileWord t o KIND ≡ DIR → r < ROLES → has (T w o) k ≡ true
       → hasRight t FILESYSTEM r k CREATE ≡ true → PlainIn (T w o) (roleAt t r .filecreate)
   -- C7
   pub own : PlainIn (S w) (ownForced t w)
-  pub initial : (o : ℕ) → o < FILES → startable t w o ≡ true → PlainIn (S w) (valueAt t INITIAL o)
-  pub forced : (o : ℕ) → o < FILES → startable t w o ≡ true → PlainIn (S w) (valueAt t FORCED o)
+  pub initial : (o : ℕ) → o < FILES → startable t w o ≡ true → PlainIn (S w) (keptAt t KEPT-INITIAL o)
+  pub forced : (o : ℕ) → o < FILES → startable t w o ≡ true → PlainIn (S w) (keptAt t KEPT-FORCED o)
   -- C8
   pub owner : carried t w INHERIT-USER ≡ true → has (S w) (userRole t (processAt t (processIn w) .owner)) ≡ true
   -- C9
@@ -170,7 +169,7 @@ module _ (t w : List ℕ) where
   c5 e r m = let h = simp tested at (at-role w _ e r m) in search
 
   c6 : C6 t w ≡ true → (o : ℕ) → o < FILES → occupied t FILESYSTEM o ≡ true
-      → (has (T w o) (valueAt t FILE-TYPE o) ≡ true) × (not (eqb (fileWord t o KIND) DIR) || createsInside t w o ≡ true)
+      → (has (T w o) (keptAt t KEPT-TYPE o) ≡ true) × (not (eqb (fileWord t o KIND) DIR) || createsInside t w o ≡ true)
   unfolding C6 holds
   c6 e o l h = let a : holds t w o ≡ true = all-at (holds t w) FILES e o l in simp tested at (rw h at a)
 
@@ -184,7 +183,7 @@ module _ (t w : List ℕ) where
   c7 e = let h = simp tested at e in (h .0, all-at _ FILES (h .1))
 
   started : (o : ℕ) → starts t w o ≡ true → startable t w o ≡ true
-      → (plainIn (S w) (valueAt t INITIAL o) ≡ true) × (plainIn (S w) (valueAt t FORCED o) ≡ true)
+      → (plainIn (S w) (keptAt t KEPT-INITIAL o) ≡ true) × (plainIn (S w) (keptAt t KEPT-FORCED o) ≡ true)
   unfolding starts
   started o e h = simp tested at (implies-at _ _ e h)
 

@@ -1,6 +1,7 @@
 -- What stays true of a run, with the accepted claim on its first row t₀. Roles, users and rights are no more than those of t₀. Each occupied file has an anchor,
 -- a place of t₀ that bounds it: a type in the anchor's T, the anchor's effective initial and forced values. Each member of the family is
 -- within S and Q with a forced value that is carried. Nothing is said of which files are those of t₀, so that reuse of a place costs nothing.
+-- Effective values are those kept beside the files, which calls and claims read: a write of one place leaves what is kept for the others.
 -- Assumes nothing.
 use Prim.Native.Nat.{ℕ, _<_}
 use mathlib.Core.Path.{_≡_, refl}
@@ -14,9 +15,8 @@ use Rattle.sets.specs.Sets.{has}
 use Rattle.sets.proofs.Below.{which, some-at}
 use Rattle.model.specs.declared.Process.{Process}
 use Rattle.model.specs.Numbers.{FILESYSTEM, PROCESS, PROCESSES, FILES, ROLES, DIR, INHERIT-USER}
-use Rattle.model.specs.Layout.{FILE-TYPE, FORCED, INITIAL, KIND}
-use Rattle.model.specs.Records.{forcedWord, processAt, fileWord, userRole, occupied}
-use Rattle.model.specs.Effective.{valueAt}
+use Rattle.model.specs.Layout.{KEPT-FORCED, KEPT-INITIAL, KEPT-TYPE, KIND}
+use Rattle.model.specs.Records.{forcedWord, processAt, fileWord, keptAt, userRole, occupied}
 use Rattle.model.specs.Claims.{processIn, S, Q, T, startable, ownForced, carried}
 use Rattle.model.specs.Runs.{Family, founder}
 use Rattle.model.proofs.Records.{roleInForced}
@@ -49,9 +49,9 @@ module _ (t₀ w : List ℕ) where
     pub placed : at < FILES
     pub used : occupied t₀ FILESYSTEM at ≡ true
     pub dir : fileWord t x KIND ≡ DIR → fileWord t₀ at KIND ≡ DIR
-    pub rctype : has (T w at) (valueAt t FILE-TYPE x) ≡ true
-    pub initial : valueAt t INITIAL x ≡ valueAt t₀ INITIAL at
-    pub forced : valueAt t FORCED x ≡ valueAt t₀ FORCED at
+    pub rctype : has (T w at) (keptAt t KEPT-TYPE x) ≡ true
+    pub initial : keptAt t KEPT-INITIAL x ≡ keptAt t₀ KEPT-INITIAL at
+    pub forced : keptAt t KEPT-FORCED x ≡ keptAt t₀ KEPT-FORCED at
 
   -- ---- the row and the family
 
@@ -68,10 +68,10 @@ module _ (t₀ w : List ℕ) where
     carried-plain v e =
         ⊎-elim (λ h. rw (eqb-true (ownForced t₀ w) v h) at (claim .own))
         (λ h.
-        let o = some-at (λ o. startable t₀ w o && eqb (valueAt t₀ FORCED o) v) FILES h in
+        let o = some-at (λ o. startable t₀ w o && eqb (keptAt t₀ KEPT-FORCED o) v) FILES h in
         let m = simp tested at (o .2) in
         rw (m .1) at (claim .forced (o .0) (o .1) (m .0)))
-        (which (eqb (ownForced t₀ w) v) (someBelow FILES (λ o. startable t₀ w o && eqb (valueAt t₀ FORCED o) v)) e)
+        (which (eqb (ownForced t₀ w) v) (someBelow FILES (λ o. startable t₀ w o && eqb (keptAt t₀ KEPT-FORCED o) v)) e)
 
     -- it holds at the start: each file is its own anchor (C6), and the process is within the bounds (C1, C8)
     pub at-start : Invariant t₀ (founder w)
@@ -92,7 +92,7 @@ module _ (t₀ w : List ℕ) where
                   record {
                     role = claim .role;
                     rctype = claim .rctype;
-                    named = live-process t₀ (claim .formed) (processIn w) (claim .placed) (claim .live) .named;
+                    named = live-process t₀ (claim .formed .formed) (processIn w) (claim .placed) (claim .live) .named;
                     forced = carried-own t₀ w;
                     owner = claim .owner;
                   };

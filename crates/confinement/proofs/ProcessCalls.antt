@@ -13,16 +13,15 @@ use Rattle.sets.proofs.Below.{which}
 use Rattle.sets.proofs.Sets.{has-bound}
 use Rattle.model.specs.declared.Process.{Process}
 use Rattle.model.specs.Numbers.{FILESYSTEM, PROCESS, USERS, EXECUTE, CHANGE-OWNER, FILES}
-use Rattle.model.specs.Layout.{FILE-TYPE}
-use Rattle.model.specs.Records.{processAt, putProcess, userRole, freePlace, occupied}
+use Rattle.model.specs.Layout.{KEPT-TYPE}
+use Rattle.model.specs.Records.{processAt, putProcess, keptAt, userRole, freePlace, occupied}
 use Rattle.model.specs.Outcome.{granting}
-use Rattle.model.specs.Effective.{valueAt}
 use Rattle.model.specs.Transitions.{chownRole, cloned, executed, chowned, withRole}
 use Rattle.model.specs.Calls.{ownRole, cloneNo, cloneRow, exitNo, exitRow, executeNo, executeRow, changeOwnerNo, roleUnder, changeOwnerRow, changeRoleNo, changeRoleRow}
 use Rattle.model.specs.Claims.{S}
 use Rattle.model.specs.Runs.{joins, leaves, Family, other}
 use Rattle.model.proofs.Records.{file-occupied, free-place}
-use Rattle.model.proofs.Effective.{type-range}
+use Rattle.model.proofs.KeptValues.{kept-type-range}
 use Rattle.model.proofs.Decided.{tested}
 use Rattle.model.proofs.Granted.{Caller, clone-granted, execute-granted}
 use Rattle.model.proofs.Formed.{WellFormed}
@@ -78,7 +77,7 @@ module _ (t₀ w : List ℕ) (claim : Accepted t₀ w) (t : List ℕ) (F : Famil
       own-put _ refl (execute-kept t (inv .formed) c me f l e) (λ m.
       let mine = inv .members c m .within in
       let a = inv .anchors f l used in
-      let s = startable-by t₀ w (a .at) _ _ (mine .role) (a .rctype) (own-right t₀ w t F inv c me FILESYSTEM (valueAt t FILE-TYPE f) EXECUTE (omega arith) (type-range t (inv .formed) f l used) (h .right)) in
+      let s = startable-by t₀ w (a .at) _ _ (mine .role) (a .rctype) (own-right t₀ w t F inv c me FILESYSTEM (keptAt t KEPT-TYPE f) EXECUTE (omega arith) (kept-type-range t (inv .formed) f l used) (h .right)) in
       let owner = inv .policy .users (processAt t c .owner) (process t₀ w t F inv c me .owner) in
       rw (own-role t₀ w t F inv c me .execute, owner, a .initial, a .forced)
       (executed-within t₀ w claim (processAt t c) mine (a .at) (a .placed) (a .used) s))

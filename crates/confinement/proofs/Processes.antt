@@ -13,14 +13,13 @@ use Rattle.model.specs.declared.Forced.{Forced}
 use Rattle.model.specs.declared.Initial.{Initial}
 use Rattle.model.specs.declared.Process.{Process}
 use Rattle.model.specs.Numbers.{FILESYSTEM, PROCESS, FILES, ROLES, USERS, INHERIT-PARENT, INHERIT-USER, INHERIT-PROCESS, UP-MIXED, CHANGE-OWNER}
-use Rattle.model.specs.Layout.{FORCED, INITIAL}
+use Rattle.model.specs.Layout.{KEPT-FORCED, KEPT-INITIAL}
 use Rattle.model.specs.Ranges.{okProcessForced}
-use Rattle.model.specs.Records.{forcedWord, initialOf, forcedOf, roleAt, userRole, hasRight, occupied}
-use Rattle.model.specs.Effective.{valueAt}
+use Rattle.model.specs.Records.{forcedWord, initialOf, forcedOf, keptAt, roleAt, userRole, hasRight, occupied}
 use Rattle.model.specs.Transitions.{defaultOr, chownType, forcedRole, initialRole, chownRole, cloned, executed, chowned, withRole}
 use Rattle.model.specs.Claims.{S, Q, startable, carried}
 use Rattle.model.proofs.Records.{forced-named, forced-word}
-use Rattle.model.proofs.Effective.{forced-range}
+use Rattle.model.proofs.KeptValues.{kept-forced-range}
 use Rattle.model.proofs.Transitions.{default-or, chown-type, forced-role, initial-role, chown-role}
 use Rattle.model.proofs.Formed.{Defaults, Live, defaults, process-forced-iff}
 use Rattle.confinement.proofs.Claim.{PlainIn, Accepted, some-role-to, carried-by}
@@ -29,7 +28,7 @@ use Rattle.confinement.proofs.Invariant.{Within, carried-plain}
 module _ (t₀ w : List ℕ) (claim : Accepted t₀ w) (m : Process) (h : Within t₀ w m) where
   -- the default types of a role in S
   types : (r : ℕ) → has (S w) r ≡ true → Defaults (roleAt t₀ r)
-  types r i = defaults t₀ (claim .formed) r (has-bound (S w) r i)
+  types r i = defaults t₀ (claim .formed .formed) r (has-bound (S w) r i)
 
   -- rules 8 and 10: a default type is in Q where it is plain (C5), and leaves the type where it is inherit parent
   default-in : (default : ℕ) → default ≤ INHERIT-PARENT → PlainIn (Q w) default → has (Q w) (defaultOr default (m .rctype)) ≡ true
@@ -55,10 +54,10 @@ module _ (t₀ w : List ℕ) (claim : Accepted t₀ w) (m : Process) (h : Within
 
   module _ (a : ℕ) (l : a < FILES) (used : occupied t₀ FILESYSTEM a ≡ true) (s : startable t₀ w a ≡ true) where
     abbrev initial : Initial
-    initial = initialOf (valueAt t₀ INITIAL a)
+    initial = initialOf (keptAt t₀ KEPT-INITIAL a)
 
     abbrev forced : Forced
-    forced = forcedOf (valueAt t₀ FORCED a)
+    forced = forcedOf (keptAt t₀ KEPT-FORCED a)
 
     -- rules 18 and 20 (C7, C8)
     started-role : has (S w) (initialRole initial (forcedRole forced (userRole t₀ (m .owner)) (m .role))) ≡ true
@@ -69,8 +68,8 @@ module _ (t₀ w : List ℕ) (claim : Accepted t₀ w) (m : Process) (h : Within
     -- rule 21
     started-forced : carried t₀ w (forcedWord forced) ≡ true
     started-forced =
-        let r = process-forced-iff (valueAt t₀ FORCED a) .0 (forced-range t₀ (claim .formed) a l used) in
-        rw (forced-word (valueAt t₀ FORCED a) (r .0) (r .2)) (carried-by t₀ w a l s)
+        let r = process-forced-iff (keptAt t₀ KEPT-FORCED a) .0 (kept-forced-range t₀ (claim .formed) a l used) in
+        rw (forced-word (keptAt t₀ KEPT-FORCED a) (r .0) (r .2)) (carried-by t₀ w a l s)
 
     pub executed-within : Within t₀ w (executed (roleAt t₀ (m .role)) (userRole t₀ (m .owner)) initial forced m)
     unfolding executed
@@ -78,7 +77,7 @@ module _ (t₀ w : List ℕ) (claim : Accepted t₀ w) (m : Process) (h : Within
         record {
           role = started-role;
           rctype = default-in _ (types _ (h .role) .execute) (claim .execute _ (h .role));
-          named = forced-named (valueAt t₀ FORCED a);
+          named = forced-named (keptAt t₀ KEPT-FORCED a);
           forced = started-forced;
           owner = h .owner;
         }

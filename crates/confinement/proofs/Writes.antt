@@ -1,8 +1,8 @@
 -- What a write leaves of the invariant. A write of a process, an IPC object or a file leaves roles, users and rights; a write of a process or an
--- IPC object leaves every file and its anchor; a write of one process leaves every other member; a write of a file that is no parent leaves
--- every other file's anchor.
+-- IPC object leaves every file and its anchor; a write of one process leaves every other member; a write of a file, with what is kept for it,
+-- leaves every other file's anchor.
 -- Assumes nothing.
-use Prim.Native.Nat.{ℕ, _≤_, _<_}
+use Prim.Native.Nat.{ℕ, _+_, _-_, _≤_, _<_}
 use mathlib.Core.Path.{_≡_, sym, _∙_}
 use mathlib.Core.Bool.{true}
 use mathlib.Core.List.{List}
@@ -13,14 +13,12 @@ use Rattle.model.specs.declared.File.{File}
 use Rattle.model.specs.declared.Ipc.{Ipc}
 use Rattle.model.specs.declared.Process.{Process}
 use Rattle.model.specs.Numbers.{FILESYSTEM, PROCESS, PROCESSES, FILES, IPCS}
-use Rattle.model.specs.Layout.{processAddr, FILE-TYPE, FILE-WORDS, FORCED, INITIAL, KIND}
-use Rattle.model.specs.Records.{processAt, putProcess, fileWord, putFile, putIpc, occupied}
+use Rattle.model.specs.Layout.{processAddr, keptAddr, FILES-AT, RIGHTS-AT, KEPT-FORCED, KEPT-INITIAL, KEPT-TYPE, KEPT-WORDS, KIND}
+use Rattle.model.specs.Records.{processAt, putProcess, fileWord, keptAt, putFile, putIpc, occupied}
 use Rattle.model.specs.Policy.{SamePolicy}
-use Rattle.model.specs.Effective.{effective, valueAt}
 use Rattle.model.specs.Runs.{Family}
-use Rattle.model.proofs.Records.{Written, policy-stays, files-stay, process-stays, occupied-stays, process-written, file-written, ipc-written, process-put-same, process-put-other, file-word-put-other, file-occupied, process-put-occupied}
-use Rattle.model.proofs.Effective.{effective-same, effective-put-other}
-use Rattle.model.proofs.Formed.{WellFormed, Barren}
+use Rattle.model.proofs.Records.{Written, written-within, written-then, policy-stays, file-word-stays, kept-stays, process-stays, occupied-stays, process-written, file-written, ipc-written, process-put-same, process-put-other, file-word-put-other, file-occupied, process-put-occupied}
+use Rattle.model.proofs.Formed.{WellFormed}
 use Rattle.confinement.proofs.Invariant.{Within, Member, Anchor, Invariant}
 use Rattle.confinement.proofs.Less.{NoMore, no-more-same, no-more-on}
 
@@ -30,10 +28,9 @@ module _ (t₀ w t : List ℕ) (F : Family) (inv : Invariant t₀ w t F) where
 
   -- ---- files
 
-  -- a file with the kind and the effective values that it had
+  -- a file with the kind that it had, and with what was kept for it
   anchor-kept : (u : List ℕ) (x : ℕ) → x < FILES → fileWord u x KIND ≡ fileWord t x KIND
-      → ((slot : ℕ) → slot < FILE-WORDS → effective u slot x ≡ effective t slot x) → occupied u FILESYSTEM x ≡ true → Anchor t₀ w u x
-  unfolding valueAt
+      → ((k : ℕ) → k < KEPT-WORDS → keptAt u k x ≡ keptAt t k x) → occupied u FILESYSTEM x ≡ true → Anchor t₀ w u x
   anchor-kept u x l kind same o =
       let a = inv .anchors x l (file-occupied t x ∙ rw (← kind) (sym (file-occupied u x) ∙ o)) in
       record {
@@ -41,14 +38,14 @@ module _ (t₀ w t : List ℕ) (F : Family) (inv : Invariant t₀ w t F) where
         placed = a .placed;
         used = a .used;
         dir = λ d. a .dir (sym kind ∙ d);
-        rctype = rw (valueAt, same FILE-TYPE (omega arith)) (a .rctype);
-        initial = rw (valueAt, same INITIAL (omega arith)) (a .initial);
-        forced = rw (valueAt, same FORCED (omega arith)) (a .forced);
+        rctype = rw (same KEPT-TYPE (omega arith)) (a .rctype);
+        initial = same KEPT-INITIAL (omega arith) ∙ a .initial;
+        forced = same KEPT-FORCED (omega arith) ∙ a .forced;
       }
 
-  anchors-same : (u : List ℕ) → ((o k : ℕ) → o < FILES → k < FILE-WORDS → fileWord u o k ≡ fileWord t o k)
-      → (x : ℕ) → x < FILES → occupied u FILESYSTEM x ≡ true → Anchor t₀ w u x
-  anchors-same u same x l = anchor-kept u x l (same x KIND l (omega arith)) (λ slot h. effective-same t u (inv .formed) same slot h x l)
+  -- a write before the files leaves them all, and what is kept for them
+  anchors-same : {u : List ℕ} {a n : ℕ} → Written t u a n → a + n ≤ FILES-AT → (x : ℕ) → x < FILES → occupied u FILESYSTEM x ≡ true → Anchor t₀ w u x
+  anchors-same {u} written b x l = anchor-kept u x l (file-word-stays written x KIND (omega arith)) (λ k m. kept-stays written k x (omega arith))
 
   -- ---- processes
 
@@ -72,7 +69,7 @@ module _ (t₀ w t : List ℕ) (F : Family) (inv : Invariant t₀ w t F) where
       record {
         formed = formed;
         policy = policy-after (policy-stays (process-written t p r) (omega arith) (omega arith));
-        anchors = anchors-same (putProcess t p r) (files-stay (process-written t p r) (omega arith));
+        anchors = anchors-same (process-written t p r) (omega arith);
         members = λ q f. ⊎-elim (λ h. other q (h .0) (h .1)) (λ h. rw (h .0) (here (h .1) (h .2))) (member q f);
       }
     where
@@ -82,7 +79,7 @@ module _ (t₀ w t : List ℕ) (F : Family) (inv : Invariant t₀ w t F) where
 
       here : r .live ≡ true → Within t₀ w r → Member t₀ w (putProcess t p r) p
       here e h =
-          let sized = inv .formed .sized in
+          let sized = inv .formed .formed .sized in
           record {
             placed = l;
             live = process-put-occupied t sized p r l ∙ e;
@@ -91,27 +88,32 @@ module _ (t₀ w t : List ℕ) (F : Family) (inv : Invariant t₀ w t F) where
 
   -- ---- files and IPC objects: the family is as before
 
-  -- a file is put at a place that is no parent
-  pub put-file : (z : ℕ) (f : File) → z < FILES → WellFormed (putFile t z f) → Barren t z
-      → (occupied (putFile t z f) FILESYSTEM z ≡ true → Anchor t₀ w (putFile t z f) z) → Invariant t₀ w (putFile t z f) F
-  put-file z f l formed barren new =
+  -- a file is put at z, and then what is kept for it
+  pub put-file : (z : ℕ) (f : File) (u : List ℕ) → z < FILES → Written (putFile t z f) u (keptAddr z) KEPT-WORDS → WellFormed u
+      → (occupied u FILESYSTEM z ≡ true → Anchor t₀ w u z) → Invariant t₀ w u F
+  put-file z f u l beside formed new =
       record {
         formed = formed;
-        policy = policy-after (policy-stays (file-written t z f) (omega arith) (omega arith));
+        policy = policy-after (policy-stays both (omega arith) (omega arith));
         anchors = λ x h o. elim (ℕ-discrete x z) [
           | yes e ↦ rw e (new (rw e at o))
           | no n ↦
-              anchor-kept (putFile t z f) x h (file-word-put-other t z f x KIND n (omega arith))
-              (λ slot i. effective-put-other t z f (inv .formed) barren slot i x h n) o
+              anchor-kept u x h (file-word-stays beside x KIND (omega arith) ∙ file-word-put-other t z f x KIND n (omega arith))
+              (λ k m. kept-stays beside k x (omega arith) ∙ kept-stays (file-written t z f) k x (omega arith)) o
         ];
-        members = members-same (file-written t z f) (omega arith);
+        members = members-same both (omega arith);
       }
+    where
+      both : Written t u FILES-AT (RIGHTS-AT - FILES-AT)
+      both =
+          written-then (written-within (file-written t z f) FILES-AT (RIGHTS-AT - FILES-AT) (omega arith) (omega arith))
+          (written-within beside FILES-AT (RIGHTS-AT - FILES-AT) (omega arith) (omega arith))
 
   pub put-ipc : (i : ℕ) (r : Ipc) → i < IPCS → WellFormed (putIpc t i r) → Invariant t₀ w (putIpc t i r) F
   put-ipc i r l formed =
       record {
         formed = formed;
         policy = policy-after (policy-stays (ipc-written t i r) (omega arith) (omega arith));
-        anchors = anchors-same (putIpc t i r) (files-stay (ipc-written t i r) (omega arith));
+        anchors = anchors-same (ipc-written t i r) (omega arith);
         members = members-same (ipc-written t i r) (omega arith);
       }

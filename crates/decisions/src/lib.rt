@@ -1,4 +1,4 @@
-// How every call ends: a number other than 0 refuses and leaves the row as found; 0 answers a place and writes one word or one record.
+// How a call ends that writes one word or one record: a number other than 0 refuses and leaves the row as found; 0 answers a place and writes.
 use model::Answer;
 use rules::refusal::grant;
 use rules::refusal::refusal;

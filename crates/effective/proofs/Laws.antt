@@ -11,9 +11,6 @@ use Rattle.model.specs.Effective.{oneUp, climb}
 use Rattle.model.specs.declared.Climbed.{Climbed}
 use Rattle.model.proofs.Effective.{climb-bound, climb-up}
 
-pub value-of : (up : Climbed) (e : Climbed) → up ≡ e → up .value ≡ e .value
-value-of up e h = rw h
-
 module _ (t : List ℕ) (slot : ℕ) (up : Climbed) where
   pub up-of : (o d p : ℕ) → d ≢ 0 → fileWord t o slot ≡ INHERIT-PARENT → p ≡ fileWord t o PARENT → up ≡ climb (d - 1) t slot p → oneUp up ≡ climb d t slot o
   up-of o d p n e parent above = ap oneUp above ∙ rw (parent, climb-up t slot o d n e)

@@ -27,13 +27,13 @@ module _ (t : List ℕ) (sized : length t ≡ rowLength) where
 
 module _ (t : List ℕ) (e : wellFormed t ≡ true) where
   pub whole-fits : rowLength ≤ length t
-  whole-fits = full-fits t (facts t e .sized)
+  whole-fits = full-fits t (facts t e .formed .sized)
 
   pub whole-length : rowLength ≡ length (take rowLength t)
-  whole-length = full-length t (facts t e .sized)
+  whole-length = full-length t (facts t e .formed .sized)
 
   pub whole-take : take rowLength t ≡ t
-  whole-take = full-take t (facts t e .sized)
+  whole-take = full-take t (facts t e .formed .sized)
 
   pub whole-drop : (l : List ℕ) → l ++ drop rowLength t ≡ l
-  whole-drop = full-drop t (facts t e .sized)
+  whole-drop = full-drop t (facts t e .formed .sized)

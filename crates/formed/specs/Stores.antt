@@ -3,8 +3,8 @@
 use Prim.Native.Nat.{ℕ, _+_}
 use mathlib.Core.List.{List, [], _∷_}
 use lib.Dec.{eqb}
-use Rattle.model.specs.Numbers.{INHERIT-PARENT, FIRST-PROCESS, ROOT}
-use Rattle.model.specs.Layout.{MARK, roleAddr}
+use Rattle.model.specs.Numbers.{INHERIT-PARENT, FIRST-PROCESS, ROOT, ROOT-TYPE, ROOT-INITIAL, ROOT-FORCED}
+use Rattle.model.specs.Layout.{MARK, roleAddr, keptAddr}
 use Rattle.model.specs.Words.{put}
 use Rattle.model.specs.Records.{flag, putProcess, putFile}
 use Rattle.model.specs.Fresh.{firstProcess, rootDir}
@@ -13,6 +13,7 @@ use Rattle.model.specs.Fresh.{firstProcess, rootDir}
 abbrev pub putFreshRole : List ℕ → ℕ → List ℕ
 putFreshRole t n = put t (roleAddr n + MARK) (flag (eqb n 0) ∷ INHERIT-PARENT ∷ INHERIT-PARENT ∷ INHERIT-PARENT ∷ INHERIT-PARENT ∷ [])
 
--- process 0 and the root
+-- process 0, the root, and what is kept for the root
 abbrev pub putFirst : List ℕ → List ℕ
-putFirst t = putFile (putProcess t FIRST-PROCESS firstProcess) ROOT rootDir
+putFirst t =
+    put (putFile (putProcess t FIRST-PROCESS firstProcess) ROOT rootDir) (keptAddr ROOT) (ROOT-TYPE ∷ ROOT-INITIAL ∷ ROOT-FORCED ∷ [])

@@ -6,6 +6,7 @@ use Rattle.sets.specs.Below.{allBelow}
 use Rattle.model.specs.Numbers.{FILESYSTEM, PROCESS, PROCESSES, FILES, IPCS, ROLES, USERS, FIRST-PROCESS, ROOT}
 use Rattle.model.specs.Records.{occupied}
 use Rattle.model.specs.WellFormed.{processOk, userOk, roleOk, ipcOk, fileOk}
+use Rattle.formed.specs.Steps.{stepOk}
 
 unfoldable pub tablesOk : List ℕ → Bool
 tablesOk t =
@@ -13,6 +14,6 @@ tablesOk t =
     && allBelow USERS (userOk t)
     && allBelow ROLES (roleOk t)
     && allBelow IPCS (ipcOk t)
-    && allBelow FILES (fileOk t)
+    && allBelow FILES (λ o. fileOk t o && stepOk t o)
     && occupied t PROCESS FIRST-PROCESS
     && occupied t FILESYSTEM ROOT

@@ -15,9 +15,13 @@ use model::numbers::INHERIT_PARENT;
 use model::numbers::PROCESS;
 use model::numbers::ROLES;
 use model::numbers::ROOT;
+use model::numbers::ROOT_FORCED;
+use model::numbers::ROOT_INITIAL;
+use model::numbers::ROOT_TYPE;
 use rules::refusal::grant;
 use rules::refusal::refusal;
 use tables::addresses::file_addr;
+use tables::addresses::kept_addr;
 use tables::addresses::process_addr;
 use tables::addresses::role_addr;
 use tables::places::occupied;
@@ -35,7 +39,7 @@ ghost use Rattle.model.specs.Fresh.{buildFresh};
 mod records;
 mod walks;
 
-// Every table but for its length: numbers in their ranges, free places with zeros, process 0 live, the files a tree.
+// Every table but for its length: numbers in their ranges, free places with zeros, process 0 live, the files a tree, what is kept beside them.
 fn tables_ok(t: &[u32]) -> bool
     ensures { λ r. ⌜ r ≡ tablesOk (now (t .entry)) ⌝ }
 {
@@ -48,7 +52,8 @@ fn tables_ok(t: &[u32]) -> bool
         & occupied(t, FILESYSTEM, ROOT)
 }
 
-// Every table has its full length, every number is in its range, free places hold zeros, process 0 is live, the files are a tree.
+// Every table has its full length, every number is in its range, free places hold zeros, process 0 is live, the files are a tree, and what is kept
+// beside them is the climb's: one step of the climb for each place tells.
 // The length goes first, and the row is handed on at that length, so that the compiler knows it where the walks read.
 pub fn well_formed(t: &[u32]) -> bool
     ensures { λ r. ⌜ r ≡ wellFormed (now (t .entry)) ⌝ }
@@ -85,7 +90,7 @@ fn put_fresh_role(t: &mut [u32], role: u32)
     put_words(t, role_addr(role) + MARK, &vs);
 }
 
-// Process 0 and the root, which fresh tables have.
+// Process 0 and the root, which fresh tables have, and what the root's values read as.
 fn put_first(t: &mut [u32])
     ensures { λ _. ⌜ now (t .exit) ≡ putFirst (now (t .entry)) ⌝ }
 {
@@ -93,6 +98,8 @@ fn put_first(t: &mut [u32])
     put_words(t, process_addr(FIRST_PROCESS), &process);
     let root = file_words(root_dir());
     put_words(t, file_addr(ROOT), &root);
+    let kept = [ROOT_TYPE, ROOT_INITIAL, ROOT_FORCED];
+    put_words(t, kept_addr(ROOT), &kept);
 }
 
 // Fresh tables over whatever a row of full length held; a row of any other length is refused with 1.

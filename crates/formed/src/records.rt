@@ -11,6 +11,10 @@ use model::layout::FILE_TYPE;
 use model::layout::FORCED;
 use model::layout::INITIAL;
 use model::layout::IPC_TYPE;
+use model::layout::KEPT_FORCED;
+use model::layout::KEPT_INITIAL;
+use model::layout::KEPT_TYPE;
+use model::layout::KIND;
 use model::layout::MARK;
 use model::layout::OWNER;
 use model::layout::PARENT;
@@ -29,6 +33,9 @@ use model::numbers::PROCESS_CREATE;
 use model::numbers::PROCESS_EXECUTE;
 use model::numbers::ROLES;
 use model::numbers::ROOT;
+use model::numbers::ROOT_FORCED;
+use model::numbers::ROOT_INITIAL;
+use model::numbers::ROOT_TYPE;
 use model::numbers::TYPES;
 use model::numbers::USERS;
 use rules::ranges::ok_chown;
@@ -41,13 +48,18 @@ use tables::addresses::ipc_addr;
 use tables::addresses::process_addr;
 use tables::addresses::role_addr;
 use tables::addresses::user_addr;
+use tables::records::file_word;
+use tables::records::kept_at;
+use tables::records::own_value;
 use tables::words::word;
 ghost use mathlib.Core.List.{[], _∷_};
 ghost use mathlib.Core.Path.{_≡_};
+ghost use mathlib.Core.Bool.{_&&_};
 ghost use Rattle.model.specs.Layout.{FILE-WORDS, fileAddr};
 ghost use Rattle.model.specs.Words.{block};
 ghost use Rattle.model.specs.WellFormed.{linkOk, processOk, userOk, roleOk, ipcOk, fileOk};
 ghost use Rattle.model.specs.Fresh.{firstProcess, rootDir};
+ghost use Rattle.formed.specs.Steps.{valueOk, valuesOk, freeOk, stepOk};
 
 // Live, owner, role, type, forced.
 pub fn process_ok(t: &[u32], p: u32) -> bool
@@ -117,31 +129,85 @@ fn link_ok(t: &[u32], o: u32, kind: u32, parent: u32, depth: u32) -> bool
         & (depth <= DEEPEST)
 }
 
-// Kind, parent, depth, type, initial, forced.
-pub fn file_ok(t: &[u32], o: u32) -> bool
-    ensures { λ r. ⌜ r ≡ fileOk (now (t .entry)) o ⌝ }
+// One value of a file: it is inherit parent, and the one above it is kept, or it is in its range, and is kept itself.
+fn value_ok(ranged: bool, own: u32, kept: u32, above: u32) -> bool
+    ensures { λ r. ⌜ r ≡ valueOk ranged own kept above ⌝ }
 {
-    let a = file_addr(o);
-    let kind = word(t, a);
-    if kind == FREE {
-        return (word(t, a + (PARENT as usize)) == 0)
-            & (word(t, a + (DEPTH as usize)) == 0)
-            & (word(t, a + (FILE_TYPE as usize)) == 0)
-            & (word(t, a + (INITIAL as usize)) == 0)
-            & (word(t, a + (FORCED as usize)) == 0);
+    if own == INHERIT_PARENT {
+        kept == above
+    } else {
+        ranged & (kept == own)
     }
-    let ranged = (kind <= DIR)
-        & ok_type(word(t, a + (FILE_TYPE as usize)))
-        & ok_initial(word(t, a + (INITIAL as usize)))
-        & ok_forced(word(t, a + (FORCED as usize)));
-    ranged
-        & link_ok(
-            t,
-            o,
-            kind,
-            word(t, a + (PARENT as usize)),
-            word(t, a + (DEPTH as usize)),
-        )
+}
+
+// The three values of a file and what is kept of them, where those above it are handed in.
+fn values_ok(t: &[u32], o: u32, rctype: u32, initial: u32, forced: u32) -> bool
+    ensures { λ r. ⌜ r ≡ valuesOk (now (t .entry)) o rctype initial forced ⌝ }
+{
+    let own_type = own_value(t, KEPT_TYPE, o);
+    if !value_ok(
+        ok_type(own_type),
+        own_type,
+        kept_at(t, KEPT_TYPE, o),
+        rctype,
+    ) {
+        return false;
+    }
+    let own_initial = own_value(t, KEPT_INITIAL, o);
+    if !value_ok(
+        ok_initial(own_initial),
+        own_initial,
+        kept_at(t, KEPT_INITIAL, o),
+        initial,
+    ) {
+        return false;
+    }
+    let own_forced = own_value(t, KEPT_FORCED, o);
+    value_ok(
+        ok_forced(own_forced),
+        own_forced,
+        kept_at(t, KEPT_FORCED, o),
+        forced,
+    )
+}
+
+// A free place holds zeros only, and zeros are kept for it.
+fn free_ok(t: &[u32], o: u32) -> bool
+    ensures { λ r. ⌜ r ≡ freeOk (now (t .entry)) o ⌝ }
+{
+    (file_word(t, o, PARENT) == 0)
+        & (file_word(t, o, DEPTH) == 0)
+        & (file_word(t, o, FILE_TYPE) == 0)
+        & (file_word(t, o, INITIAL) == 0)
+        & (file_word(t, o, FORCED) == 0)
+        & (kept_at(t, KEPT_TYPE, o) == 0)
+        & (kept_at(t, KEPT_INITIAL, o) == 0)
+        & (kept_at(t, KEPT_FORCED, o) == 0)
+}
+
+// Kind, parent, depth, type, initial, forced, and one step of the climb for what is kept of the last three: a value is in hand for both tests.
+pub fn file_ok(t: &[u32], o: u32) -> bool
+    ensures { λ r. ⌜ r ≡ (fileOk (now (t .entry)) o && stepOk (now (t .entry)) o) ⌝ }
+{
+    let kind = file_word(t, o, KIND);
+    if kind == FREE {
+        return free_ok(t, o);
+    }
+    let parent = file_word(t, o, PARENT);
+    let linked = (kind <= DIR) & link_ok(t, o, kind, parent, file_word(t, o, DEPTH));
+    if !linked {
+        return false;
+    }
+    if o == ROOT {
+        return values_ok(t, o, ROOT_TYPE, ROOT_INITIAL, ROOT_FORCED);
+    }
+    values_ok(
+        t,
+        o,
+        kept_at(t, KEPT_TYPE, parent),
+        kept_at(t, KEPT_INITIAL, parent),
+        kept_at(t, KEPT_FORCED, parent),
+    )
 }
 
 // Process 0 of fresh tables (rule 1).

@@ -10,10 +10,12 @@ use model::numbers::IPCS;
 use model::numbers::PROCESSES;
 use model::numbers::ROLES;
 use model::numbers::USERS;
+ghost use mathlib.Core.Bool.{_&&_};
 ghost use mathlib.Core.Path.{_≡_};
 ghost use Rattle.sets.specs.Below.{allBelow};
 ghost use Rattle.model.specs.Numbers.{PROCESSES, USERS, ROLES, IPCS, FILES};
 ghost use Rattle.model.specs.WellFormed.{processOk, userOk, roleOk, ipcOk, fileOk};
+ghost use Rattle.formed.specs.Steps.{stepOk};
 
 pub fn processes_ok(t: &[u32]) -> bool
     ensures { λ r. ⌜ r ≡ allBelow PROCESSES (processOk (now (t .entry))) ⌝ }
@@ -64,8 +66,9 @@ pub fn ipcs_ok(t: &[u32]) -> bool
     ok
 }
 
+// Each file together with what is kept for it.
 pub fn files_ok(t: &[u32]) -> bool
-    ensures { λ r. ⌜ r ≡ allBelow FILES (fileOk (now (t .entry))) ⌝ }
+    ensures { λ r. ⌜ r ≡ allBelow FILES (λ o. fileOk (now (t .entry)) o && stepOk (now (t .entry)) o) ⌝ }
 {
     let mut k = 0;
     while k < FILES {

@@ -94,7 +94,7 @@ module _ (row : List Process) (ok : rowOk row ≡ true) where
     first-holds zero l p m = absurd (not-suc-le-zero m)
     first-holds (suc n) l p m =
         by-bool (λ b. processAt (putProcess (holdingFirst n t row) n (recordAt row n)) p ≡ recordAt row p) (eqb p n)
-        (λ e. rw (eqb-true p n e) (process-put-same (holdingFirst n t row) (first-formed n (omega arith) .sized) n (recordAt row n) (omega arith) (named n (omega arith))))
+        (λ e. rw (eqb-true p n e) (process-put-same (holdingFirst n t row) (first-formed n (omega arith) .formed .sized) n (recordAt row n) (omega arith) (named n (omega arith))))
         (λ e. let d = eqb-false p n e in process-put-other (holdingFirst n t row) n (recordAt row n) p d ∙ first-holds n (omega arith) p (omega (arith, d)))
 
     first-roles : (n : ℕ) → n ≤ PROCESSES → (r : ℕ) → r < ROLES → roleAt (holdingFirst n t row) r ≡ roleAt t r
@@ -147,7 +147,7 @@ record-there t p l = sym (records-read t 0 PROCESSES p l ∙ ap (processAt t) (o
 pub live-mark : (t : List ℕ) → WellFormed t → (c : ℕ) → c < PROCESSES → occupied t PROCESS c ≡ processAt t c .live
 live-mark t w c l =
     by-bool (λ b. occupied t PROCESS c ≡ b → b ≡ processAt t c .live) (occupied t PROCESS c)
-    (λ e _. sym (live-process t w c l e .live)) (λ e _. sym (ap (λ (r : Process). r .live) (free-process t w c l e))) refl
+    (λ e _. sym (live-process t (w .formed) c l e .live)) (λ e _. sym (ap (λ (r : Process). r .live) (free-process t (w .formed) c l e))) refl
 
 forced-is-ok : (f : Forced) → roleInForced f < ROLES → okProcessForced (forcedWord f) ≡ true → forcedOk f ≡ true
 forced-is-ok (Forced.Plain r) l e = lt-ltb r ROLES l
@@ -172,5 +172,5 @@ records-ok t w = rw (records-sized t) (all-of (λ p. recordOk p (recordAt (recor
     there : (p : ℕ) → p < PROCESSES → recordOk p (processAt t p) ≡ true
     there p l =
         by-bool (λ b. occupied t PROCESS p ≡ b → recordOk p (processAt t p) ≡ true) (occupied t PROCESS p)
-        (λ e _. live-ok p (processAt t p) (live-process t w p l e))
-        (λ e _. rw (free-process t w p l e) (free-ok p (λ z. false≢true (sym e ∙ rw z (w .first))))) refl
+        (λ e _. live-ok p (processAt t p) (live-process t (w .formed) p l e))
+        (λ e _. rw (free-process t (w .formed) p l e) (free-ok p (λ z. false≢true (sym e ∙ rw z (w .formed .first))))) refl

@@ -91,7 +91,7 @@ module _ (t : List ℕ) (row : List Process) (c role : ℕ) (u : List ℕ) (w : 
   -- at a live record own role is the one that was lent
   same-role : c < PROCESSES → me .live ≡ true → roleAt t (me .role) ≡ ownRole u c
   unfolding ownRole
-  same-role l e = let live = live-process u w c l (live-there l ∙ e) in rw (there c l) (sym (same (me .role) (rw (← there c l) (live .role))))
+  same-role l e = let live = live-process u (w .formed) c l (live-there l ∙ e) in rw (there c l) (sym (same (me .role) (rw (← there c l) (live .role))))
 
   same-number : roleNo t c me role ≡ number u c (Call.ChangeRole role)
   unfolding roleNo number callerNo ruling changeRoleNo
@@ -113,7 +113,7 @@ module _ (t : List ℕ) (row : List Process) (c role : ℕ) (u : List ℕ) (w : 
   caller-live : roleNo t c me role ≡ 0 → Live (processAt u c) × (c < PROCESSES) × (me .live ≡ true)
   caller-live e =
       let caller = granted-by u c (Call.ChangeRole role) .0 (sym same-number ∙ e) .caller in
-      (live-process u w c (caller .placed) (caller .live), caller .placed, sym (live-there (caller .placed)) ∙ caller .live)
+      (live-process u (w .formed) c (caller .placed) (caller .live), caller .placed, sym (live-there (caller .placed)) ∙ caller .live)
 
   -- granted, the tables afterwards hold the patched row
   held-after : roleNo t c me role ≡ 0 → set row c (patched me role) ≡ recordsOf (changeRoleRow u c role)
@@ -125,7 +125,7 @@ module _ (t : List ℕ) (row : List Process) (c role : ℕ) (u : List ℕ) (w : 
       (λ p m. by-bool (λ b. recordAt (set row c (patched me role)) p ≡ processAt (putProcess u c new) p) (eqb p c)
       (λ h. rw (eqb-true p c h) (record-set-same row c (patched me role) (live-within row c (caller .2))
       ∙ patched-is me role (caller .2) ∙ ap (withRole role) (sym (there c (caller .1)))
-      ∙ sym (process-put-same u (w .sized) c new (caller .1) (rw forced-after (caller .0 .named)))))
+      ∙ sym (process-put-same u (w .formed .sized) c new (caller .1) (rw forced-after (caller .0 .named)))))
       (λ h. let d = eqb-false p c h in record-set-other row c (patched me role) p d ∙ sym (there p m) ∙ sym (process-put-other u c new p d)))
 
   -- refused, they hold the row as found

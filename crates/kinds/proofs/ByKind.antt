@@ -45,7 +45,7 @@ module _ (t : List ℕ) (kind caller : ℕ) (n : List ℕ) where
   pub on-well-formed-tables-act-by-kind-is-step-by-kind : wellFormed t ≡ true → actByKind t kind caller n ≡ stepByKind t kind caller n
   unfolding actByKind stepByKind
   on-well-formed-tables-act-by-kind-is-step-by-kind w =
-      rw (eq-eqb _ rowLength (facts t w .sized)) (done-written t caller (decodeOf kind n) w)
+      rw (eq-eqb _ rowLength (facts t w .formed .sized)) (done-written t caller (decodeOf kind n) w)
 
   -- On any others every call by kind is 1.
   pub on-any-others-step-by-kind-is-1 : wellFormed t ≡ false → stepByKind t kind caller n ≡ refusing 1 t

@@ -1,21 +1,26 @@
 -- How a run is computed. A call asks first whether the whole row is well formed, which is dear to compute; but fresh tables are well formed, and
 -- each call keeps them so: on such tables a call is `act` alone. So the runs of the definition are rewritten by `computing` to `acting`, `acted`
 -- and `answered`, and those are computed. All that they are made of stands on the line of `acting`: to unfold `acting` is to unfold it all.
+-- A run that sets a value of a DIR is rewritten by `setting-values` too, call by call, since the sweeps of such a call are dear.
 -- Assumes nothing.
-use Prim.Native.Nat.{ℕ}
+use Prim.Native.Nat.{ℕ, _+_, _<_}
 use mathlib.Core.Path.{_≡_, refl, ap}
 use mathlib.Core.Bool.{true}
-use mathlib.Core.List.{List, [], _∷_, map}
+use mathlib.Core.List.{List, [], _∷_, _++_, map}
+use native.Mathlib.Omega.{arith}
+use lib.ListN.{set}
 use Rattle.sets.specs.Below.{allBelow, someBelow, firstBelow}
 use Rattle.sets.specs.Sets.{has, added, removed, inside}
 use Rattle.model.specs.declared.Call.{Call}
 use Rattle.model.specs.declared.Change.{Change}
 use Rattle.model.specs.declared.Answer.{Answer}
+use Rattle.model.specs.Layout.{FILE-TYPE, KEPT-INITIAL, KEPT-FORCED, KEPT-WORDS, fileAddr}
 use Rattle.model.specs.Words.{block, put}
-use Rattle.model.specs.Records.{kindOf, initialOf, forcedOf, processAt, putProcess, putFile, fileWord, ipcAt, putIpc, roleAt, userRole, hasRight, occupied, freePlace}
+use Rattle.model.specs.Records.{kindOf, initialOf, forcedOf, processAt, putProcess, putFile, fileWord, keptAt, ipcAt, putIpc, roleAt, userRole, hasRight, occupied, freePlace}
 use Rattle.model.specs.WellFormed.{wellFormed}
 use Rattle.model.specs.Outcome.{Outcome, decide}
-use Rattle.model.specs.Effective.{rootValue, climb, effective, valueAt, typeOf}
+use Rattle.model.specs.Effective.{rootValue}
+use Rattle.model.specs.KeptValues.{typeOf, ownOrParents, settled, unkept, keptAnew, swept, sweeps, revalued}
 use Rattle.model.specs.Transitions.{defaultOr, chownType, cloned, executed, chowned, withRole, created}
 use Rattle.model.specs.Calls.{ownRole, may, accessNo, cloneNo, cloneRow, exitNo, exitRow, executeNo, executeRow, changeOwnerNo, roleUnder, changeOwnerRow, changeRoleNo, changeRoleRow, createNo, createRow, notChild, childless, removable, deleteNo, deleteRow, createIpcNo, createIpcRow, deleteIpcNo, deleteIpcRow}
 use Rattle.model.specs.Administration.{passes, changeSetNo, changeSetRow, setUserRoleNo, setUserRoleRow, assignRoleNo, setInitialRow, setForcedRow, setProcessForcedRow, roleAdminNo, setDefaultTypeRow, setRoleAdminRow, inherited, assignedType, setTypeNo, setTypeRow, changeRightNo, changeRightRow, rulingOn}
@@ -23,7 +28,8 @@ use Rattle.model.specs.Step.{callerNo, ruling, number, act, step}
 use Rattle.model.specs.Claims.{toSome, someRoleTo, startable, carried, C1, assignsNothing, powerless, C2, spares, C3, C4, C5, createsInside, holds, C6, starts, C7, C8, C9, broken}
 use Rattle.model.specs.Runs.{Event, asks, answers, after}
 use Rattle.model.proofs.Kept.{kept, step-act}
-use Rattle.marked.proofs.Fresh.{fresh-ok}
+use Rattle.model.proofs.FreshFormed.{fresh-formed}
+use Rattle.marked.proofs.Brief.{briefly, revalued-briefly}
 
 -- ---- what is computed
 
@@ -36,10 +42,15 @@ unfolding
     passes changeSetNo changeSetRow setUserRoleNo setUserRoleRow assignRoleNo setInitialRow setForcedRow setProcessForcedRow
     roleAdminNo setDefaultTypeRow setRoleAdminRow inherited assignedType setTypeNo setTypeRow changeRightNo changeRightRow
     ownRole may defaultOr chownType cloned executed chowned withRole created
-    rootValue climb effective valueAt typeOf
-    kindOf initialOf forcedOf processAt putProcess putFile fileWord ipcAt putIpc roleAt userRole hasRight occupied freePlace
+    rootValue typeOf ownOrParents settled unkept keptAnew swept sweeps revalued
+    kindOf initialOf forcedOf processAt putProcess putFile fileWord keptAt ipcAt putIpc roleAt userRole hasRight occupied freePlace
     block put allBelow firstBelow has added removed
 acting t c call = act t c call
+
+-- a value of a file is set by a change, where that is computed in brief
+unfoldable pub setting : List ℕ → ℕ → Change → ℕ → ℕ → ℕ → Outcome
+unfolding acting briefly
+setting t c change k f v = decide t (number t c (Call.Administer change)) 0 (briefly (set t (fileAddr f + (FILE-TYPE + k)) v) k f)
 
 -- the row after a run from tables that are well formed
 unfoldable pub acted : List ℕ → List Event → List ℕ
@@ -88,7 +99,34 @@ answers-answered t (asks c call ∷ rest) w =
     rw (step-acting t c call w) (ap (λ l. acting t c call .answer ∷ l) (answers-answered (acting t c call .after) rest (acting-ok t c call w)))
 
 -- runs from fresh tables, and from tables that such a run leaves
-pub ruleset computing = (step-acting, after-acted, answers-answered, acting-ok, acted-ok, fresh-ok)
+pub ruleset computing = (step-acting, after-acted, answers-answered, acting-ok, acted-ok, fresh-formed)
+
+-- ---- a run that sets values of DIRs, part by part and call by call
+
+pub acted-on : (t : List ℕ) (run more : List Event) → acted t (run ++ more) ≡ acted (acted t run) more
+unfolding acted
+acted-on t [] more = refl
+acted-on t (asks c call ∷ rest) more = acted-on (acting t c call .after) rest more
+
+pub acted-next : (t : List ℕ) (c : ℕ) (call : Call) (rest : List Event) → acted t (asks c call ∷ rest) ≡ acted (acting t c call .after) rest
+unfolding acted
+acted-next t c call rest = refl
+
+module _ (t : List ℕ) (c f v : ℕ) where
+  brief : (n k : ℕ) → k < KEPT-WORDS
+      → decide t n 0 (revalued (set t (fileAddr f + (FILE-TYPE + k)) v) k f) ≡ decide t n 0 (briefly (set t (fileAddr f + (FILE-TYPE + k)) v) k f)
+  brief n k m = ap (λ (u : List ℕ). decide t n 0 u) (revalued-briefly (set t (fileAddr f + (FILE-TYPE + k)) v) k m f)
+
+  pub initial-set : acting t c (Call.Administer (Change.SetInitial f v)) ≡ setting t c (Change.SetInitial f v) KEPT-INITIAL f v
+  unfolding setting
+  initial-set = brief (number t c (Call.Administer (Change.SetInitial f v))) KEPT-INITIAL (omega arith)
+
+  pub forced-set : acting t c (Call.Administer (Change.SetForced f v)) ≡ setting t c (Change.SetForced f v) KEPT-FORCED f v
+  unfolding setting
+  forced-set = brief (number t c (Call.Administer (Change.SetForced f v))) KEPT-FORCED (omega arith)
+
+-- what `computing` leaves of such a run is rewritten by these before it is computed
+pub ruleset setting-values = (acted-on, acted-next, initial-set, forced-set)
 
 -- ---- words that the examples use
 

@@ -11,9 +11,10 @@ use Rattle.model.specs.declared.Change.{Change}
 use Rattle.model.specs.Numbers.{FILESYSTEM, PROCESS, FILE, COMPATIBLE-ROLES, FILE-CREATE, WRITE, EXECUTE, CREATE, CLONE}
 use Rattle.model.specs.Records.{processAt}
 use Rattle.model.specs.Fresh.{fresh}
+use Rattle.model.specs.Effective.{climb, effective, valueAt}
 use Rattle.model.specs.Claims.{claimNo, check}
 use Rattle.model.specs.Runs.{Event, asks, after, founder, allowed, confined, membersWithin}
-use Rattle.marked.proofs.Computing.{administers, numbers, acted, answered, judged, computing}
+use Rattle.marked.proofs.Computing.{administers, numbers, acted, answered, judged, computing, setting, setting-values}
 
 -- process 0 makes a program (type 3, forced role 1) and a list (type 2), and clones process 1, which starts the program
 pub setup : List Event
@@ -74,7 +75,7 @@ the-planner-writes = simp computing (unfold acted answered fresh setup careless 
 -- the hypothesis fails, and the promise with it
 pub an-outsider-that-administers-breaks-it : allowed tables (founder claim) careless ∷ confined claim tables (founder claim) careless ∷ [] ≡ false ∷ false ∷ []
 unfolding allowed confined careless claim
-an-outsider-that-administers-breaks-it = simp computing (unfold acted membersWithin fresh setup in refl)
+an-outsider-that-administers-breaks-it = simp computing (unfold acted membersWithin valueAt effective climb fresh setup in refl)
 
 -- ---- dropped: that C6 counts all 32 roles. The root forces role 5, and role 0, outside S, creates files of the startable type 3
 
@@ -87,16 +88,16 @@ trapped = after fresh (setup ++ trap)
 -- the checker names rule 6
 pub C6-counts-the-roles-outside-S : check trapped claim .rule ≡ 6
 unfolding check claimNo
-C6-counts-the-roles-outside-S = simp computing (unfold acted judged fresh setup trap claim in refl)
+C6-counts-the-roles-outside-S = simp computing (unfold trap in simp setting-values (unfold setting acted judged fresh setup claim in refl))
 
 -- and rightly: an outsider creates the file, the planner starts it, and holds role 5
 pub escape : List Event
 escape = asks 0 (Call.Create FILE 0) ∷ asks 1 (Call.Execute 3) ∷ []
 
 pub the-planner-holds-role-5 : processAt (after trapped escape) 1 .role ≡ 5
-the-planner-holds-role-5 = simp computing (unfold acted fresh setup trap escape in refl)
+the-planner-holds-role-5 = simp computing (unfold trap in simp setting-values (unfold setting acted fresh setup escape in refl))
 
 -- no outsider administers, and still the promise fails
 pub a-role-outside-S-leads-out : allowed trapped (founder claim) escape ∷ confined claim trapped (founder claim) escape ∷ [] ≡ true ∷ false ∷ []
 unfolding allowed confined escape claim
-a-role-outside-S-leads-out = simp computing (unfold acted membersWithin fresh setup trap in refl)
+a-role-outside-S-leads-out = simp computing (unfold trap in simp setting-values (unfold setting acted membersWithin fresh setup in refl))

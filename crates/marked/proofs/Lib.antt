@@ -1,5 +1,6 @@
-pub mod Fresh
+pub mod Brief
 pub mod Computing
 pub mod Marked
 pub mod Confined
 pub mod DefaultRoles
+pub mod Refreshed

@@ -13,10 +13,11 @@ use Rattle.model.specs.Numbers.{FILESYSTEM, PROCESS, FILE, DIR, USE-FORCED-ROLE
 use Rattle.model.specs.Layout.{FILE-TYPE, INITIAL, FORCED}
 use Rattle.model.specs.Records.{forcedWord, processAt}
 use Rattle.model.specs.Fresh.{fresh}
+use Rattle.model.specs.Effective.{climb, effective}
 use Rattle.model.specs.Queries.{queryNo, query}
 use Rattle.model.specs.Claims.{claimNo, check}
 use Rattle.model.specs.Runs.{Event, asks, after}
-use Rattle.marked.proofs.Computing.{administers, numbers, acted, answered, judged, computing}
+use Rattle.marked.proofs.Computing.{administers, numbers, acted, answered, judged, computing, setting, setting-values}
 
 -- ---- a night of calls from fresh tables
 
@@ -115,7 +116,7 @@ pub a1-to-a10 : (
     ∷ (9 ∷ 2 ∷ [])
     ∷ []
 unfolding check claimNo query queryNo
-a1-to-a10 = simp computing (unfold acted answered judged fresh evening morning setup executes shown deep chain claim ofQuery ofClaim in refl)
+a1-to-a10 = simp computing (unfold acted answered judged climb effective fresh evening morning setup executes shown deep chain claim ofQuery ofClaim in refl)
 
 -- ---- readings that go wrong: taking the execute type from the role after is a3, counting only the roles of S in C6 is in Confined
 
@@ -158,4 +159,4 @@ pub each-value-climbs-by-itself :
     ∷ []
     ≡ (0 ∷ 5 ∷ 0 ∷ 2 ∷ []) ∷ (0 ∷ 7 ∷ 1 ∷ 1 ∷ []) ∷ (0 ∷ 9 ∷ 2 ∷ 0 ∷ []) ∷ (4 ∷ 0 ∷ 0 ∷ 0 ∷ []) ∷ []
 unfolding query queryNo
-each-value-climbs-by-itself = simp computing (unfold acted fresh inheriting ofQuery in refl)
+each-value-climbs-by-itself = simp computing (unfold inheriting in simp setting-values (unfold setting acted climb effective fresh ofQuery in refl))

@@ -21,7 +21,7 @@ use Rattle.model.specs.Effective.{endsAt, oneUp, climb, effective, value
 use Rattle.model.specs.Transitions.{defaultOr}
 use Rattle.model.specs.declared.Climbed.{Climbed}
 use Rattle.model.proofs.Records.{by-cond, file-word-put, file-word-put-other, file-put-occupied}
-use Rattle.model.proofs.Formed.{WellFormed, forced-iff, process-forced-iff, okValue, Under, Barren, used-file, parent-dir, dir-occupied, depth-bound}
+use Rattle.model.proofs.Formed.{Formed, forced-iff, process-forced-iff, okValue, Under, Barren, used-file, parent-dir, dir-occupied, depth-bound}
 
 -- ---- the ways that a climb goes, on any row
 
@@ -67,7 +67,7 @@ pub record ComesDown (t : List ℕ) (s : ℕ) (P : ℕ → Climbed → Type 0) :
   pub root : fileWord t ROOT s ≡ INHERIT-PARENT → P ROOT (endsAt ROOT (rootValue s))
   pub child : (o : ℕ) (e : Climbed) → fileWord t o s ≡ INHERIT-PARENT → P (fileWord t o PARENT) e → P o (oneUp e)
 
-module _ (t : List ℕ) (w : WellFormed t) where
+module _ (t : List ℕ) (w : Formed t) where
   -- the depth is the number of parents
   pub effective-climb : (s o : ℕ) → o < FILES → effective t s o ≡ climb (fileWord t o DEPTH) t s o
   unfolding effective
@@ -145,14 +145,19 @@ module _ (t u : List ℕ) (Q : ℕ → Type 0) (s : ℕ)
   effective-agree o q = rw (agree o q .2, climb-agree (fileWord t o DEPTH % DEPTHS) o q)
 
 -- where every word of every file is the same, so is every effective value
-pub effective-same : (t u : List ℕ) → WellFormed t → ((o k : ℕ) → o < FILES → k < FILE-WORDS → fileWord u o k ≡ fileWord t o k)
+pub effective-same : (t u : List ℕ) → Formed t → ((o k : ℕ) → o < FILES → k < FILE-WORDS → fileWord u o k ≡ fileWord t o k)
     → (s : ℕ) → s < FILE-WORDS → (o : ℕ) → o < FILES → effective u s o ≡ effective t s o
 effective-same t u w h s sl o l =
     effective-agree t u (λ o. o < FILES) s
     (λ o m. (h o s m sl, h o PARENT m (omega arith), h o DEPTH m (omega arith), parent-dir t w o m .0)) o l
 
+pub value-same : (t u : List ℕ) → Formed t → ((o k : ℕ) → o < FILES → k < FILE-WORDS → fileWord u o k ≡ fileWord t o k)
+    → (s : ℕ) → s < FILE-WORDS → (o : ℕ) → o < FILES → valueAt u s o ≡ valueAt t s o
+unfolding valueAt
+value-same t u w h s sl o l = ap (λ (c : Climbed). c .value) (effective-same t u w h s sl o l)
+
 -- a write of a place that no place names as its parent leaves every other effective value
-pub effective-put-other : (t : List ℕ) (o : ℕ) (f : File) → WellFormed t → Barren t o → (s : ℕ) → s < FILE-WORDS
+pub effective-put-other : (t : List ℕ) (o : ℕ) (f : File) → Formed t → Barren t o → (s : ℕ) → s < FILE-WORDS
     → (q : ℕ) → q < FILES → q ≢ o → effective (putFile t o f) s q ≡ effective t s q
 effective-put-other t o f w b s sl q l n =
     effective-agree t (putFile t o f) (λ q. (q < FILES) × (q ≢ o)) s
@@ -165,7 +170,7 @@ effective-put-other t o f w b s sl q l n =
     q (l, n)
 
 -- and the file that is put there has its own value, or inherits its parent's
-pub effective-put-same : (t : List ℕ) (o : ℕ) (f : File) → WellFormed t → WellFormed (putFile t o f) → Barren t o → o < FILES → o ≢ 0
+pub effective-put-same : (t : List ℕ) (o : ℕ) (f : File) → Formed t → Formed (putFile t o f) → Barren t o → o < FILES → o ≢ 0
     → kindWord (f .kind) ≢ FREE → (s : ℕ) → s < FILE-WORDS
     → valueAt (putFile t o f) s o ≡ defaultOr (fileWords f ! s) (valueAt t s (f .parent))
 unfolding defaultOr valueAt

@@ -15,18 +15,20 @@ use Rattle.sets.proofs.Below.{all-at, all-of, lt-or-le, which, either, by-bool}
 use Rattle.model.specs.declared.Process.{Process}
 use Rattle.model.specs.declared.Role.{Role}
 use Rattle.model.specs.Numbers.{FILESYSTEM, PROCESS, PROCESSES, FILES, IPCS, ROLES, USERS, TYPES, DIR, DEEPEST, INHERIT-PARENT, USE-FORCED-ROLE, INHERIT-USER, UP-MIXED, USE-NEW-ROLE-DEF-CREATE, FIRST-PROCESS, ROOT, isRoot}
-use Rattle.model.specs.Layout.{rowLength, processAddr, DEPTH, KIND, PARENT, PROCESS-WORDS, FILE-TYPE, FILE-WORDS, FORCED, INITIAL, LIVE, PROCESS-FORCED}
+use Rattle.model.specs.Layout.{rowLength, processAddr, DEPTH, KIND, PARENT, PROCESS-WORDS, FILE-TYPE, FILE-WORDS, KEPT-WORDS, FORCED, INITIAL, LIVE, PROCESS-FORCED}
 use Rattle.model.specs.Ranges.{okType, okInitial, okForced, okProcessForced}
 use Rattle.model.specs.Words.{_!_, block}
-use Rattle.model.specs.Records.{forcedWord, forcedOf, processAt, freeProcess, fileWord, roleAt, userRole, occupied}
-use Rattle.model.specs.WellFormed.{processOk, userOk, roleOk, ipcOk, fileOk, wellFormed}
+use Rattle.model.specs.Records.{forcedWord, forcedOf, processAt, freeProcess, fileWord, keptAt, roleAt, userRole, occupied}
+use Rattle.model.specs.WellFormed.{processOk, userOk, roleOk, ipcOk, fileOk, keptOk, wellFormed}
+use Rattle.model.specs.Effective.{valueAt}
 use Rattle.model.specs.Calls.{notChild, childless, removable}
 use Rattle.model.proofs.Records.{by-cond, roleInForced, forced-named, forced-word, process-first, file-first, file-occupied}
 use Rattle.model.proofs.Decided.{tested}
 
 -- ---- the facts that the test stands for
 
-pub record WellFormed (t : List ℕ) : Type 0 where
+-- of every table but what is kept beside the files
+pub record Formed (t : List ℕ) : Type 0 where
   pub sized : length t ≡ rowLength
   pub processes : (p : ℕ) → p < PROCESSES → processOk t p ≡ true
   pub users : (i : ℕ) → i < USERS → userOk t i ≡ true
@@ -36,25 +38,34 @@ pub record WellFormed (t : List ℕ) : Type 0 where
   pub first : occupied t PROCESS FIRST-PROCESS ≡ true
   pub root : occupied t FILESYSTEM ROOT ≡ true
 
+pub record WellFormed (t : List ℕ) : Type 0 where
+  pub formed : Formed t
+  pub kept : (k o : ℕ) → k < KEPT-WORDS → o < FILES → keptAt t k o ≡ valueAt t (FILE-TYPE + k) o
+
 pub facts : (t : List ℕ) → wellFormed t ≡ true → WellFormed t
-unfolding wellFormed
+unfolding wellFormed keptOk
 facts t e =
     let h = simp and-eq-true-iff at e in
     record {
-      sized = eqb-true _ _ (h .0 .0 .0 .0 .0 .0 .0);
-      processes = all-at _ PROCESSES (h .0 .0 .0 .0 .0 .0 .1);
-      users = all-at _ USERS (h .0 .0 .0 .0 .0 .1);
-      roles = all-at _ ROLES (h .0 .0 .0 .0 .1);
-      ipcs = all-at _ IPCS (h .0 .0 .0 .1);
-      files = all-at _ FILES (h .0 .0 .1);
-      first = h .0 .1;
-      root = h .1;
+      formed =
+          record {
+            sized = eqb-true _ _ (h .0 .0 .0 .0 .0 .0 .0 .0);
+            processes = all-at _ PROCESSES (h .0 .0 .0 .0 .0 .0 .0 .1);
+            users = all-at _ USERS (h .0 .0 .0 .0 .0 .0 .1);
+            roles = all-at _ ROLES (h .0 .0 .0 .0 .0 .1);
+            ipcs = all-at _ IPCS (h .0 .0 .0 .0 .1);
+            files = all-at _ FILES (h .0 .0 .0 .1);
+            first = h .0 .1;
+            root = h .1;
+          };
+      kept = λ k o m l. eqb-true _ _ (all-at _ KEPT-WORDS (all-at (keptOk t) FILES (h .0 .0 .1) o l) k m);
     }
 
 pub test : (t : List ℕ) → WellFormed t → wellFormed t ≡ true
-unfolding wellFormed
+unfolding wellFormed keptOk
 test t w =
-    rw (eq-eqb _ _ (w .sized), all-of _ PROCESSES (w .processes), all-of _ USERS (w .users), all-of _ ROLES (w .roles), all-of _ IPCS (w .ipcs), all-of _ FILES (w .files), w .first, w .root)
+    let f = w .formed in
+    rw (eq-eqb _ _ (f .sized), all-of _ PROCESSES (f .processes), all-of _ USERS (f .users), all-of _ ROLES (f .roles), all-of _ IPCS (f .ipcs), all-of _ FILES (f .files), all-of (keptOk t) FILES (λ o l. all-of _ KEPT-WORDS (λ k m. eq-eqb _ _ (w .kept k o m l))), f .first, f .root)
 
 -- ---- ranges as orders
 
@@ -111,7 +122,7 @@ pub record Used (t : List ℕ) (o : ℕ) : Type 0 where
   pub top : o ≡ ROOT → (fileWord t o KIND ≡ DIR) × (fileWord t o PARENT ≡ ROOT) × (fileWord t o DEPTH ≡ 0)
   pub under : o ≢ ROOT → Under t o (fileWord t o PARENT)
 
-module _ (t : List ℕ) (w : WellFormed t) where
+module _ (t : List ℕ) (w : Formed t) where
   pub live-process : (p : ℕ) → p < PROCESSES → occupied t PROCESS p ≡ true → Live (processAt t p)
   unfolding processOk processAt
   live-process p l e =
@@ -205,7 +216,7 @@ Barren t o = (q : ℕ) → q < FILES → fileWord t q PARENT ≢ o
 pub dir-occupied : (t : List ℕ) (o : ℕ) → fileWord t o KIND ≡ DIR → occupied t FILESYSTEM o ≡ true
 dir-occupied t o e = rw (file-occupied t o, e)
 
-module _ (t : List ℕ) (w : WellFormed t) where
+module _ (t : List ℕ) (w : Formed t) where
   pub depth-bound : (o : ℕ) → o < FILES → fileWord t o DEPTH ≤ DEEPEST
   depth-bound o l =
       by-bool (λ b. fileWord t o DEPTH ≤ DEEPEST) (occupied t FILESYSTEM o)

@@ -11,10 +11,10 @@ use lib.Dec.{eqb}
 use Rattle.sets.proofs.Below.{which}
 use Rattle.model.specs.declared.Call.{Call}
 use Rattle.model.specs.Numbers.{FILESYSTEM, PROCESS, IPC, PROCESSES, FILES, IPCS, FILE, DIR, DEEPEST, EXECUTE, CREATE, DELETE, CLONE, MODIFY-ATTRIBUTE, ASSIGN}
-use Rattle.model.specs.Layout.{KIND, DEPTH, FILE-TYPE}
+use Rattle.model.specs.Layout.{KIND, DEPTH, KEPT-TYPE}
 use Rattle.model.specs.Ranges.{ranged}
-use Rattle.model.specs.Records.{processAt, fileWord, occupied, freePlace}
-use Rattle.model.specs.Effective.{valueAt, typeOf}
+use Rattle.model.specs.Records.{processAt, fileWord, keptAt, occupied, freePlace}
+use Rattle.model.specs.KeptValues.{typeOf}
 use Rattle.model.specs.Calls.{ownRole, may, accessNo, cloneNo, executeNo, createNo, removable, deleteNo, createIpcNo, deleteIpcNo}
 use Rattle.model.specs.Administration.{passes, mayAssign, assignedType, assignRoleNo, setTypeNo}
 use Rattle.model.specs.Step.{callerNo, ruling, number}
@@ -66,7 +66,7 @@ module _ (t : List ℕ) (c : ℕ) where
 
   pub record ExecuteGranted (f : ℕ) : Type 0 where
     pub file : fileWord t f KIND ≡ FILE
-    pub right : may t c FILESYSTEM (valueAt t FILE-TYPE f) EXECUTE ≡ true
+    pub right : may t c FILESYSTEM (keptAt t KEPT-TYPE f) EXECUTE ≡ true
 
   pub execute-granted : (f : ℕ) → (executeNo t c f ≡ 0) ↔ ExecuteGranted f
   unfolding executeNo
@@ -77,7 +77,7 @@ module _ (t : List ℕ) (c : ℕ) where
 
   pub record CreateGranted (y : ℕ) : Type 0 where
     pub dir : fileWord t y KIND ≡ DIR
-    pub right : may t c FILESYSTEM (valueAt t FILE-TYPE y) CREATE ≡ true
+    pub right : may t c FILESYSTEM (keptAt t KEPT-TYPE y) CREATE ≡ true
     pub depth : fileWord t y DEPTH < DEEPEST
     pub room : freePlace t FILESYSTEM < FILES
 
@@ -90,7 +90,7 @@ module _ (t : List ℕ) (c : ℕ) where
 
   pub record DeleteGranted (o : ℕ) : Type 0 where
     pub used : occupied t FILESYSTEM o ≡ true
-    pub right : may t c FILESYSTEM (valueAt t FILE-TYPE o) DELETE ≡ true
+    pub right : may t c FILESYSTEM (keptAt t KEPT-TYPE o) DELETE ≡ true
     pub removable : removable t o ≡ true
 
   pub delete-granted : (o : ℕ) → (deleteNo t c o ≡ 0) ↔ DeleteGranted o

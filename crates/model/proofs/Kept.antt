@@ -3,30 +3,32 @@
 -- Assumes nothing.
 use Prim.Native.Nat.{ℕ, _+_, _-_, _<_}
 use mathlib.Core.Path.{_≡_, refl}
-use mathlib.Core.Bool.{Bool, true, false}
+use mathlib.Core.Bool.{Bool, true, false, cond}
 use mathlib.Core.List.{List}
 use mathlib.Core.Logic.{_≢_, _⊎_, ⊎-elim}
 use native.Mathlib.Omega.{arith}
 use borrow.Author.Tests.{lt-ltb, le-ltb, le-leb, ne-eqb, ltb-true}
+use lib.Dec.{eqb}
 use lib.ListN.{set}
 use Rattle.model.specs.declared.Call.{Call}
 use Rattle.model.specs.declared.Change.{Change}
 use Rattle.model.specs.Numbers.{FILESYSTEM, DEFAULT-TYPES, DIR, FILE, FILES, FREE, GROUPS, IPC, IPCS, PROCESS, ROLE-SETS, ROLES, TYPES, USE-FORCED-ROLE, USERS, places}
-use Rattle.model.specs.Layout.{DEFAULTS, FORCED, INITIAL, MARK, PROCESS-FORCED, PROCESS-TYPE}
+use Rattle.model.specs.Layout.{DEFAULTS, KEPT-TYPE, KEPT-INITIAL, KEPT-FORCED, DEPTH, MARK, PROCESS-FORCED, PROCESS-TYPE}
 use Rattle.model.specs.Ranges.{okDefault, okTypeIn, ranged, rangedChange}
-use Rattle.model.specs.Records.{kindWord, kindOf, processAt, roleAt, userRole, freeIpc, occupied, freePlace}
+use Rattle.model.specs.Records.{kindWord, kindOf, processAt, roleAt, userRole, freeIpc, putFile, fileWord, keptAt, occupied, freePlace}
 use Rattle.model.specs.WellFormed.{wellFormed}
-use Rattle.model.specs.Effective.{valueAt}
+use Rattle.model.specs.KeptValues.{revalued}
+use Rattle.model.specs.Transitions.{created}
 use Rattle.model.specs.Calls.{ownRole, cloneNo, cloneRow, exitNo, exitRow, executeNo, executeRow, roleUnder, changeOwnerRow, changeRoleRow, createNo, createRow, deleteNo, deleteRow, createIpcNo, createIpcRow, deleteIpcRow}
 use Rattle.model.specs.Administration.{typeAddr, changeSetRow, setUserRoleRow, setInitialRow, setForcedRow, setProcessForcedRow, setDefaultTypeRow, setRoleAdminRow, setTypeRow, changeRightRow, rulingOn}
 use Rattle.model.specs.Step.{act, step, ruling, number}
 use Rattle.model.proofs.Decided.{decided, tested}
 use Rattle.model.proofs.Granted.{Caller, granted-by, clone-granted, execute-granted, create-granted, delete-granted, create-ipc-granted, assign-role-granted, set-type-granted, kind-ranged}
 use Rattle.model.proofs.Records.{by-group, file-occupied, free-place}
-use Rattle.model.proofs.Formed.{WellFormed, facts, test, Live, Defaults, live-process, defaults, user-role, removable-barren}
-use Rattle.model.proofs.Effective.{forced-range}
+use Rattle.model.proofs.Formed.{Formed, WellFormed, facts, test, Live, Defaults, live-process, defaults, user-role, free-barren, removable-barren}
 use Rattle.model.proofs.Transitions.{chown-role, cloned-live, executed-live, chowned-live, with-role-live}
-use Rattle.model.proofs.Places.{put-live, put-free-process, put-ipc, put-created, put-free-file, set-process, set-ipc, set-role, set-user, set-value, set-right}
+use Rattle.model.proofs.Places.{put-live, put-free-process, put-ipc, put-created, put-free-file, set-process, set-ipc, set-role, set-user, set-right}
+use Rattle.model.proofs.KeptValues.{kept-forced-range, put-settled, removed-unkept, revalued-formed}
 
 -- a kind that may be asked for is no free place
 pub kind-made : (kind : ℕ) → (kind ≡ FILE) ⊎ (kind ≡ DIR) → kindWord (kindOf kind) ≢ FREE
@@ -38,11 +40,11 @@ module _ (t : List ℕ) (w : WellFormed t) (c : ℕ) where
 
   module _ (me : Caller t c) where
     pub caller-live : Live (processAt t c)
-    caller-live = live-process t w c (me .placed) (me .live)
+    caller-live = live-process t (w .formed) c (me .placed) (me .live)
 
     pub own-defaults : Defaults (ownRole t c)
     unfolding ownRole
-    own-defaults = defaults t w (processAt t c .role) (caller-live .role)
+    own-defaults = defaults t (w .formed) (processAt t c .role) (caller-live .role)
 
     pub clone-kept : cloneNo t c ≡ 0 → WellFormed (cloneRow t c)
     unfolding cloneRow
@@ -57,15 +59,15 @@ module _ (t : List ℕ) (w : WellFormed t) (c : ℕ) where
     unfolding executeRow
     execute-kept f l e =
         put-live t w c _ (me .placed)
-        (executed-live (ownRole t c) (processAt t c) own-defaults caller-live (userRole t (processAt t c .owner)) (valueAt t INITIAL f) (valueAt t FORCED f)
-        (user-role t w (processAt t c .owner) (caller-live .owner)) (forced-range t w f l (rw (file-occupied t f, execute-granted t c f .0 e .file))))
+        (executed-live (ownRole t c) (processAt t c) own-defaults caller-live (userRole t (processAt t c .owner)) (keptAt t KEPT-INITIAL f) (keptAt t KEPT-FORCED f)
+        (user-role t (w .formed) (processAt t c .owner) (caller-live .owner)) (kept-forced-range t w f l (rw (file-occupied t f, execute-granted t c f .0 e .file))))
 
     -- rule 22 gives a role
     pub role-under : (u : ℕ) → u < USERS → roleUnder t c u < ROLES
     unfolding roleUnder
     role-under u l =
         chown-role (λ v. v < ROLES) (processAt t c .forced) (userRole t u) (processAt t c .role) (caller-live .named) (λ b. b)
-        (λ a b. user-role t w u l) (caller-live .role)
+        (λ a b. user-role t (w .formed) u l) (caller-live .role)
 
     pub change-owner-kept : (u : ℕ) → u < USERS → WellFormed (changeOwnerRow t c u)
     unfolding changeOwnerRow
@@ -73,18 +75,26 @@ module _ (t : List ℕ) (w : WellFormed t) (c : ℕ) where
         let r = role-under u l in
         put-live t w c _ (me .placed)
         (chowned-live (ownRole t c) (processAt t c) own-defaults caller-live u (roleUnder t c u) (roleAt t (roleUnder t c u) .processcreate)
-        l r (defaults t w (roleUnder t c u) r .processcreate))
+        l r (defaults t (w .formed) (roleUnder t c u) r .processcreate))
 
     pub change-role-kept : (r : ℕ) → r < ROLES → WellFormed (changeRoleRow t c r)
     unfolding changeRoleRow
     change-role-kept r l = put-live t w c _ (me .placed) (with-role-live r (processAt t c) l caller-live)
 
+    -- the new file, before what is kept for it
+    pub created-formed : (kind y : ℕ) → (kind ≡ FILE) ⊎ (kind ≡ DIR) → y < FILES → createNo t c y ≡ 0
+        → Formed (putFile t (freePlace t FILESYSTEM) (created (ownRole t c) (kindOf kind) y (fileWord t y DEPTH + 1)))
+    created-formed kind y k l e =
+        let g = create-granted t c y .0 e in
+        put-created t (w .formed) (freePlace t FILESYSTEM) y (ownRole t c) (kindOf kind) (g .room) (free-place t FILESYSTEM (g .room)) own-defaults
+        (kind-made kind k) l (g .dir) (g .depth)
+
     pub create-kept : (kind y : ℕ) → (kind ≡ FILE) ⊎ (kind ≡ DIR) → y < FILES → createNo t c y ≡ 0 → WellFormed (createRow t c kind y)
     unfolding createRow
     create-kept kind y k l e =
-        let g = create-granted t c y .0 e in
-        put-created t w (freePlace t FILESYSTEM) y (ownRole t c) (kindOf kind) (g .room) (free-place t FILESYSTEM (g .room)) own-defaults
-        (kind-made kind k) l (g .dir) (g .depth)
+        let room = create-granted t c y .0 e .room in
+        put-settled t w (freePlace t FILESYSTEM) _ room (free-barren t (w .formed) (freePlace t FILESYSTEM) (free-place t FILESYSTEM room) .1)
+        (created-formed kind y k l e)
 
     pub create-ipc-kept : createIpcNo t c ≡ 0 → WellFormed (createIpcRow t c)
     unfolding createIpcRow
@@ -94,8 +104,8 @@ module _ (t : List ℕ) (w : WellFormed t) (c : ℕ) where
   pub delete-kept : (o : ℕ) → o < FILES → deleteNo t c o ≡ 0 → WellFormed (deleteRow t o)
   unfolding deleteRow
   delete-kept o l e =
-      let b = removable-barren t w o (delete-granted t c o .0 e .removable) in
-      put-free-file t w o l (b .0) (b .1)
+      let b = removable-barren t (w .formed) o (delete-granted t c o .0 e .removable) in
+      removed-unkept t w o l (b .1) (put-free-file t (w .formed) o l (b .0) (b .1))
 
   pub delete-ipc-kept : (i : ℕ) → i < IPCS → WellFormed (deleteIpcRow t i)
   unfolding deleteIpcRow
@@ -116,8 +126,8 @@ module _ (t : List ℕ) (w : WellFormed t) (c : ℕ) where
   set-type-kept : (g o v : ℕ) → g < GROUPS → o < places g → okTypeIn g v ≡ true → occupied t g o ≡ true → WellFormed (setTypeRow t g o v)
   unfolding setTypeRow
   set-type-kept g o v =
-      by-group (λ g. o < places g → okTypeIn g v ≡ true → occupied t g o ≡ true → WellFormed (set t (typeAddr g o) v))
-      (λ l k q. set-value t w o 0 v l q (omega arith) k)
+      by-group (λ g. o < places g → okTypeIn g v ≡ true → occupied t g o ≡ true → WellFormed (cond (eqb g FILESYSTEM) (revalued (set t (typeAddr g o) v) KEPT-TYPE o) (set t (typeAddr g o) v)))
+      (λ l k q. revalued-formed t w KEPT-TYPE o v (omega arith) l q k)
       (λ l k q. set-process t w o PROCESS-TYPE v l q (omega arith) (omega arith) k)
       (λ l k q. set-ipc t w o v l q (ltb-true v TYPES k))
       g
@@ -129,10 +139,10 @@ module _ (t : List ℕ) (w : WellFormed t) (c : ℕ) where
   change-kept (Change.SetUserRole u r) l e = let h = simp tested at l in set-user t w u r (h .0) (h .1)
   change-kept (Change.SetInitial f v) l e =
       let h = simp tested at l in
-      set-value t w f 1 v (h .0) (assign-role-granted t c FILESYSTEM f v .0 e .used) (omega arith) (le-leb v USE-FORCED-ROLE (h .1))
+      revalued-formed t w KEPT-INITIAL f v (omega arith) (h .0) (assign-role-granted t c FILESYSTEM f v .0 e .used) (le-leb v USE-FORCED-ROLE (h .1))
   change-kept (Change.SetForced f v) l e =
       let h = simp tested at l in
-      set-value t w f 2 v (h .0) (assign-role-granted t c FILESYSTEM f v .0 e .used) (omega arith) (h .1)
+      revalued-formed t w KEPT-FORCED f v (omega arith) (h .0) (assign-role-granted t c FILESYSTEM f v .0 e .used) (h .1)
   change-kept (Change.SetProcessForced p v) l e =
       let h = simp tested at l in
       set-process t w p PROCESS-FORCED v (h .0) (assign-role-granted t c PROCESS p v .0 e .used) (omega arith) (omega arith) (h .1)

@@ -6,6 +6,7 @@ pub mod Formed
 pub mod Effective
 pub mod Transitions
 pub mod Places
+pub mod KeptValues
 pub mod Kept
 pub mod Created
 pub mod FreshFormed

@@ -1,5 +1,6 @@
 -- A write within one place keeps a well-formed row well formed, if that place passes afterwards: one law for each table, whatever is written there.
--- Below them, what may be put or set: any valid record, and any one word in its range.
+-- Below them, what may be put or set: any valid record, and any one word in its range. After a write of a file all is well formed but what is kept
+-- beside the files (`Formed`); KeptValues goes on from there.
 -- Assumes nothing.
 use Prim.Native.Nat.{ℕ, _+_, _*_, _-_, _≤_, _<_}
 use mathlib.Core.Path.{_≡_, refl, sym, ap, _∙_}
@@ -19,15 +20,16 @@ use Rattle.model.specs.declared.Process.{Process}
 use Rattle.model.specs.declared.File.{File}
 use Rattle.model.specs.declared.Ipc.{Ipc}
 use Rattle.model.specs.Numbers.{FILESYSTEM, PROCESS, IPC, PROCESSES, FILES, IPCS, ROLES, USERS, TYPES, FREE, DIR, DEEPEST, INHERIT-PARENT, FIRST-PROCESS, GROUPS, ROOT}
-use Rattle.model.specs.Layout.{processAddr, userAddr, roleAddr, ipcAddr, fileAddr, rightsAddr, DEPTH, FILE-WORDS, IPC-WORDS, KIND, PARENT, PROCESS-WORDS, ROLE-WORDS, FILE-TYPE, IPC-TYPE, RIGHTS-AT}
+use Rattle.model.specs.Layout.{processAddr, userAddr, roleAddr, ipcAddr, fileAddr, rightsAddr, DEPTH, FILE-WORDS, IPC-WORDS, KIND, PARENT, PROCESS-WORDS, ROLE-WORDS, FILE-TYPE, IPC-TYPE, FILES-AT, KEPT-AT, KEPT-WORDS, RIGHTS-AT}
 use Rattle.model.specs.Ranges.{okProcessForced, okDefault}
 use Rattle.model.specs.Words.{_!_, block}
 use Rattle.model.specs.Records.{kindWord, processWords, putProcess, freeProcess, putFile, freeFile, fileWord, ipcWords, putIpc, occupied}
 use Rattle.model.specs.WellFormed.{processWordsOk, ipcWordsOk, processOk, userOk, roleOk, ipcOk, fileOk}
 use Rattle.model.specs.Transitions.{created}
 use Rattle.model.proofs.Words.{word-set-same, word-set-other}
-use Rattle.model.proofs.Records.{Clear, Written, set-written, process-written, file-written, ipc-written, block-stays, file-word-stays, occupied-stays, process-block, file-block, file-block-word, ipc-block, file-word-set, process-first, ipc-first, file-first, file-occupied, process-put-occupied}
-use Rattle.model.proofs.Formed.{WellFormed, Live, Defaults, okValue, Used, Barren, used-file, used-ok, file-same, parent-dir, dir-occupied, free-barren}
+use Rattle.model.proofs.Records.{Clear, Written, set-written, process-written, file-written, ipc-written, block-stays, file-word-stays, kept-stays, files-stay, occupied-stays, process-block, file-block, file-block-word, ipc-block, file-word-set, process-first, ipc-first, file-first, file-occupied, process-put-occupied}
+use Rattle.model.proofs.Formed.{Formed, WellFormed, Live, Defaults, okValue, Used, Barren, used-file, used-ok, file-same, parent-dir, dir-occupied, free-barren}
+use Rattle.model.proofs.Effective.{value-same}
 
 -- ---- a write and the tables
 
@@ -49,13 +51,13 @@ module _ {t u : List ℕ} {a n : ℕ} (x : Written t u a n) where
   ipc-ok-stays i c = rw (block-stays x (ipcAddr i) IPC-WORDS c)
 
   -- each table lies clear of the write, or passes
-  pub row-kept : WellFormed t
+  pub row-formed : Formed t
       → Clear (processAddr 0) (PROCESSES * PROCESS-WORDS) a n ⊎ (((p : ℕ) → p < PROCESSES → processOk u p ≡ true) × (occupied u PROCESS FIRST-PROCESS ≡ true))
       → Clear (userAddr 0) USERS a n ⊎ ((i : ℕ) → i < USERS → userOk u i ≡ true)
       → Clear (roleAddr 0) (ROLES * ROLE-WORDS) a n ⊎ ((r : ℕ) → r < ROLES → roleOk u r ≡ true)
       → Clear (ipcAddr 0) (IPCS * IPC-WORDS) a n ⊎ ((i : ℕ) → i < IPCS → ipcOk u i ≡ true)
-      → Clear (fileAddr 0) (FILES * FILE-WORDS) a n ⊎ (((o : ℕ) → o < FILES → fileOk u o ≡ true) × (occupied u FILESYSTEM ROOT ≡ true)) → WellFormed u
-  row-kept w processes users roles ipcs files =
+      → Clear (fileAddr 0) (FILES * FILE-WORDS) a n ⊎ (((o : ℕ) → o < FILES → fileOk u o ≡ true) × (occupied u FILESYSTEM ROOT ≡ true)) → Formed u
+  row-formed w processes users roles ipcs files =
       record {
         sized = x .sized ∙ w .sized;
         processes = λ p l. ⊎-elim (λ c. process-ok-stays p (λ y z. c (omega arith) (omega arith)) ∙ w .processes p l) (λ h. h .0 p l) processes;
@@ -74,45 +76,66 @@ module _ {t u : List ℕ} {a n : ℕ} (x : Written t u a n) where
         root = ⊎-elim (λ c. occupied-stays x FILESYSTEM ROOT (λ y z. c (omega arith) (omega arith)) ∙ w .root) (λ h. h .1) files;
       }
 
+  -- a write apart from the files and from what is kept beside them leaves every value kept the climb's
+  aside : WellFormed t → Clear FILES-AT (FILES * FILE-WORDS + FILES * KEPT-WORDS) a n → Formed u → WellFormed u
+  aside w c f =
+      record {
+        formed = f;
+        kept = λ k o m l.
+            kept-stays x k o (λ p q. c (omega arith) (omega arith)) ∙ w .kept k o m l
+            ∙ sym (value-same t u (w .formed) (files-stay x (λ p q. c (omega arith) (omega arith))) (FILE-TYPE + k) (omega arith) o l);
+      }
+
   -- ---- a write within one place, by its table
 
   pub process-place-kept : (p : ℕ) → WellFormed t → p < PROCESSES → processAddr p ≤ a → a + n ≤ processAddr p + PROCESS-WORDS
       → processOk u p ≡ true → (p ≡ FIRST-PROCESS → occupied u PROCESS p ≡ true) → WellFormed u
   process-place-kept p w l from to ok first =
-      row-kept w
+      let f = w .formed in
+      aside w (omega arith)
+      (row-formed f
       (inr (
-        λ q m. elim (ℕ-discrete q p) [ yes s ↦ rw s ok | no d ↦ process-ok-stays q (omega arith) ∙ w .processes q m ],
-        elim (ℕ-discrete p FIRST-PROCESS) [ yes s ↦ rw s at (first s) | no d ↦ occupied-stays x PROCESS FIRST-PROCESS (omega arith) ∙ w .first ],
+        λ q m. elim (ℕ-discrete q p) [ yes s ↦ rw s ok | no d ↦ process-ok-stays q (omega arith) ∙ f .processes q m ],
+        elim (ℕ-discrete p FIRST-PROCESS) [ yes s ↦ rw s at (first s) | no d ↦ occupied-stays x PROCESS FIRST-PROCESS (omega arith) ∙ f .first ],
       ))
-      (inl (omega arith)) (inl (omega arith)) (inl (omega arith)) (inl (omega arith))
+      (inl (omega arith)) (inl (omega arith)) (inl (omega arith)) (inl (omega arith)))
 
   pub user-place-kept : (i : ℕ) → WellFormed t → i < USERS → userAddr i ≤ a → a + n ≤ userAddr i + 1 → userOk u i ≡ true → WellFormed u
   user-place-kept i w l from to ok =
-      row-kept w (inl (omega arith))
-      (inr (λ q m. elim (ℕ-discrete q i) [ yes s ↦ rw s ok | no d ↦ user-ok-stays q (omega arith) ∙ w .users q m ]))
-      (inl (omega arith)) (inl (omega arith)) (inl (omega arith))
+      aside w (omega arith)
+      (row-formed (w .formed) (inl (omega arith))
+      (inr (λ q m. elim (ℕ-discrete q i) [ yes s ↦ rw s ok | no d ↦ user-ok-stays q (omega arith) ∙ w .formed .users q m ]))
+      (inl (omega arith)) (inl (omega arith)) (inl (omega arith)))
 
   pub role-place-kept : (r : ℕ) → WellFormed t → r < ROLES → roleAddr r ≤ a → a + n ≤ roleAddr r + ROLE-WORDS → roleOk u r ≡ true → WellFormed u
   role-place-kept r w l from to ok =
-      row-kept w (inl (omega arith)) (inl (omega arith))
-      (inr (λ q m. elim (ℕ-discrete q r) [ yes s ↦ rw s ok | no d ↦ role-ok-stays q (omega arith) ∙ w .roles q m ]))
-      (inl (omega arith)) (inl (omega arith))
+      aside w (omega arith)
+      (row-formed (w .formed) (inl (omega arith)) (inl (omega arith))
+      (inr (λ q m. elim (ℕ-discrete q r) [ yes s ↦ rw s ok | no d ↦ role-ok-stays q (omega arith) ∙ w .formed .roles q m ]))
+      (inl (omega arith)) (inl (omega arith)))
 
   pub ipc-place-kept : (i : ℕ) → WellFormed t → i < IPCS → ipcAddr i ≤ a → a + n ≤ ipcAddr i + IPC-WORDS → ipcOk u i ≡ true → WellFormed u
   ipc-place-kept i w l from to ok =
-      row-kept w (inl (omega arith)) (inl (omega arith)) (inl (omega arith))
-      (inr (λ q m. elim (ℕ-discrete q i) [ yes s ↦ rw s ok | no d ↦ ipc-ok-stays q (omega arith) ∙ w .ipcs q m ]))
-      (inl (omega arith))
+      aside w (omega arith)
+      (row-formed (w .formed) (inl (omega arith)) (inl (omega arith)) (inl (omega arith))
+      (inr (λ q m. elim (ℕ-discrete q i) [ yes s ↦ rw s ok | no d ↦ ipc-ok-stays q (omega arith) ∙ w .formed .ipcs q m ]))
+      (inl (omega arith)))
 
   pub right-place-kept : WellFormed t → RIGHTS-AT ≤ a → a + n ≤ RIGHTS-AT + GROUPS * (ROLES * TYPES) → WellFormed u
-  right-place-kept w from to = row-kept w (inl (omega arith)) (inl (omega arith)) (inl (omega arith)) (inl (omega arith)) (inl (omega arith))
+  right-place-kept w from to =
+      aside w (omega arith)
+      (row-formed (w .formed) (inl (omega arith)) (inl (omega arith)) (inl (omega arith)) (inl (omega arith)) (inl (omega arith)))
+
+  -- what is kept beside the files is no part of any table's test
+  pub beside-formed : Formed t → KEPT-AT ≤ a → a + n ≤ KEPT-AT + FILES * KEPT-WORDS → Formed u
+  beside-formed w from to = row-formed w (inl (omega arith)) (inl (omega arith)) (inl (omega arith)) (inl (omega arith)) (inl (omega arith))
 
   -- a file place whose kind and depth stay, or that no place names as its parent
-  pub file-place-kept : (o : ℕ) → WellFormed t → o < FILES → fileAddr o ≤ a → a + n ≤ fileAddr o + FILE-WORDS
+  pub file-place-formed : (o : ℕ) → Formed t → o < FILES → fileAddr o ≤ a → a + n ≤ fileAddr o + FILE-WORDS
       → ((fileWord u o KIND ≡ fileWord t o KIND) × (fileWord u o DEPTH ≡ fileWord t o DEPTH)) ⊎ ((o ≢ ROOT) × Barren t o)
-      → fileOk u o ≡ true → WellFormed u
-  file-place-kept o w l from to link ok =
-      row-kept w (inl (omega arith)) (inl (omega arith)) (inl (omega arith)) (inl (omega arith))
+      → fileOk u o ≡ true → Formed u
+  file-place-formed o w l from to link ok =
+      row-formed w (inl (omega arith)) (inl (omega arith)) (inl (omega arith)) (inl (omega arith))
       (inr (λ q m. elim (ℕ-discrete q o) [ yes s ↦ rw s ok | no d ↦ other q m d ∙ w .files q m ], root))
     where
       word : (q k : ℕ) → q ≢ o → k < FILE-WORDS → fileWord u q k ≡ fileWord t q k
@@ -157,23 +180,24 @@ module _ (t : List ℕ) (w : WellFormed t) where
   pub put-live : (p : ℕ) (r : Process) → p < PROCESSES → Live r → WellFormed (putProcess t p r)
   unfolding processOk
   put-live p r l v =
-      process-place-kept (process-written t p r) p w l (omega arith) (omega arith) (rw (process-block t (w .sized) p r l) (live-ok r v))
-      (λ z. process-put-occupied t (w .sized) p r l ∙ v .live)
+      process-place-kept (process-written t p r) p w l (omega arith) (omega arith) (rw (process-block t (w .formed .sized) p r l) (live-ok r v))
+      (λ z. process-put-occupied t (w .formed .sized) p r l ∙ v .live)
 
   -- process 0 stays
   pub put-free-process : (p : ℕ) → p < PROCESSES → p ≢ FIRST-PROCESS → WellFormed (putProcess t p freeProcess)
   unfolding processOk
   put-free-process p l n =
-      process-place-kept (process-written t p freeProcess) p w l (omega arith) (omega arith) (rw (process-block t (w .sized) p freeProcess l)) (λ z. absurd (n z))
+      process-place-kept (process-written t p freeProcess) p w l (omega arith) (omega arith) (rw (process-block t (w .formed .sized) p freeProcess l)) (λ z. absurd (n z))
 
   pub put-ipc : (i : ℕ) (r : Ipc) → i < IPCS → ipcWordsOk (ipcWords r) ≡ true → WellFormed (putIpc t i r)
   unfolding ipcOk
-  put-ipc i r l v = ipc-place-kept (ipc-written t i r) i w l (omega arith) (omega arith) (rw (ipc-block t (w .sized) i r l) v)
+  put-ipc i r l v = ipc-place-kept (ipc-written t i r) i w l (omega arith) (omega arith) (rw (ipc-block t (w .formed .sized) i r l) v)
 
-  pub put-file : (o : ℕ) (f : File) → o < FILES → o ≢ ROOT → Barren t o → fileOk (putFile t o f) o ≡ true → WellFormed (putFile t o f)
-  put-file o f l n b v = file-place-kept (file-written t o f) o w l (omega arith) (omega arith) (inr (n, b)) v
+module _ (t : List ℕ) (w : Formed t) where
+  pub put-file : (o : ℕ) (f : File) → o < FILES → o ≢ ROOT → Barren t o → fileOk (putFile t o f) o ≡ true → Formed (putFile t o f)
+  put-file o f l n b v = file-place-formed (file-written t o f) o w l (omega arith) (omega arith) (inr (n, b)) v
 
-  pub put-free-file : (o : ℕ) → o < FILES → o ≢ ROOT → Barren t o → WellFormed (putFile t o freeFile)
+  pub put-free-file : (o : ℕ) → o < FILES → o ≢ ROOT → Barren t o → Formed (putFile t o freeFile)
   unfolding fileOk
   put-free-file o l n b = put-file o freeFile l n b (rw (file-block t (w .sized) o freeFile l))
 
@@ -186,7 +210,7 @@ module _ (t : List ℕ) (w : WellFormed t) where
 
   -- rule 6: a new file or directory in a free place, under the DIR y
   pub put-created : (o y : ℕ) (own : Role) (kind : Kind) → o < FILES → occupied t FILESYSTEM o ≡ false → Defaults own → kindWord kind ≢ FREE
-      → y < FILES → fileWord t y KIND ≡ DIR → fileWord t y DEPTH < DEEPEST → WellFormed (putFile t o (created own kind y (fileWord t y DEPTH + 1)))
+      → y < FILES → fileWord t y KIND ≡ DIR → fileWord t y DEPTH < DEEPEST → Formed (putFile t o (created own kind y (fileWord t y DEPTH + 1)))
   put-created o y own kind l e d k m dir depth =
       let b = free-barren t w o e in
       put-file o (created own kind y (fileWord t y DEPTH + 1)) l (b .0) (b .1)
@@ -236,7 +260,7 @@ module _ (t : List ℕ) (w : WellFormed t) where
       let k : occupied (set t (processAddr p + s) v) PROCESS p ≡ true = occupied-stays x PROCESS p (omega arith) ∙ e in
       process-place-kept x p w l (omega arith) (omega arith)
       (process-words (set t (processAddr p + s) v) p k
-      ∙ words-set t (processAddr p) PROCESS-WORDS s v processWordOk (omega (arith, w .sized)) h (sym (process-words t p e) ∙ w .processes p l))
+      ∙ words-set t (processAddr p) PROCESS-WORDS s v processWordOk (omega (arith, w .formed .sized)) h (sym (process-words t p e) ∙ w .formed .processes p l))
       (λ y. k)
 
   -- the type of a live IPC object
@@ -245,26 +269,31 @@ module _ (t : List ℕ) (w : WellFormed t) where
       let x = set-written t (ipcAddr i + IPC-TYPE) v in
       ipc-place-kept x i w l (omega arith) (omega arith)
       (ipc-words (set t (ipcAddr i + IPC-TYPE) v) i (occupied-stays x IPC i (omega arith) ∙ e)
-      ∙ words-set t (ipcAddr i) IPC-WORDS 1 v ipcWordOk (omega (arith, w .sized)) (lt-ltb v TYPES h) (sym (ipc-words t i e) ∙ w .ipcs i l))
+      ∙ words-set t (ipcAddr i) IPC-WORDS 1 v ipcWordOk (omega (arith, w .formed .sized)) (lt-ltb v TYPES h) (sym (ipc-words t i e) ∙ w .formed .ipcs i l))
 
   -- a word of a role
   pub set-role : (r s v : ℕ) → r < ROLES → s < ROLE-WORDS → roleWordOk s v ≡ true → WellFormed (set t (roleAddr r + s) v)
   set-role r s v l m h =
       role-place-kept (set-written t (roleAddr r + s) v) r w l (omega arith) (omega arith)
       (role-words (set t (roleAddr r + s) v) r
-      ∙ words-set t (roleAddr r) ROLE-WORDS s v roleWordOk (omega (arith, w .sized)) h (sym (role-words t r) ∙ w .roles r l))
+      ∙ words-set t (roleAddr r) ROLE-WORDS s v roleWordOk (omega (arith, w .formed .sized)) h (sym (role-words t r) ∙ w .formed .roles r l))
 
   -- a user's default role
   pub set-user : (i v : ℕ) → i < USERS → v < ROLES → WellFormed (set t (userAddr i) v)
   unfolding userOk
   set-user i v l h =
       user-place-kept (set-written t (userAddr i) v) i w l (omega arith) (omega arith)
-      (rw (word-set-same t (userAddr i) v (omega (arith, w .sized))) (lt-ltb v ROLES h))
+      (rw (word-set-same t (userAddr i) v (omega (arith, w .formed .sized))) (lt-ltb v ROLES h))
 
+  -- any right of any role
+  pub set-right : (g r k v : ℕ) → g < GROUPS → r < ROLES → k < TYPES → WellFormed (set t (rightsAddr g r k) v)
+  set-right g r k v l m n = right-place-kept (set-written t (rightsAddr g r k) v) w (omega arith) (omega arith)
+
+module _ (t : List ℕ) (w : Formed t) where
   -- the type, initial or forced value of an occupied file place
-  pub set-value : (o k v : ℕ) → o < FILES → occupied t FILESYSTEM o ≡ true → k < 3 → okValue k v ≡ true → WellFormed (set t (fileAddr o + (FILE-TYPE + k)) v)
+  pub set-value : (o k v : ℕ) → o < FILES → occupied t FILESYSTEM o ≡ true → k < 3 → okValue k v ≡ true → Formed (set t (fileAddr o + (FILE-TYPE + k)) v)
   set-value o k v l e m h =
-      file-place-kept x o w l (omega arith) (omega arith) (inl (word o KIND (omega arith), word o DEPTH (omega arith)))
+      file-place-formed x o w l (omega arith) (omega arith) (inl (word o KIND (omega arith), word o DEPTH (omega arith)))
       (used-ok u o (λ z. eqb-false _ _ (file-first t o true e) (sym (word o KIND (omega arith)) ∙ z)) used)
     where
       u : List ℕ
@@ -299,7 +328,3 @@ module _ (t : List ℕ) (w : WellFormed t) where
                   bounded = rw (word o DEPTH (omega arith)) (y .bounded);
                 };
           }
-
-  -- any right of any role
-  pub set-right : (g r k v : ℕ) → g < GROUPS → r < ROLES → k < TYPES → WellFormed (set t (rightsAddr g r k) v)
-  set-right g r k v l m n = right-place-kept (set-written t (rightsAddr g r k) v) w (omega arith) (omega arith)

@@ -18,9 +18,9 @@ use Rattle.model.specs.declared.Process.{Process}
 use Rattle.model.specs.declared.File.{File}
 use Rattle.model.specs.declared.Ipc.{Ipc}
 use Rattle.model.specs.Numbers.{GROUPS, FILESYSTEM, PROCESS, IPC, PROCESSES, FILES, IPCS, ROLES, USERS, TYPES, INHERIT-PARENT, USE-FORCED-ROLE, INHERIT-USER, INHERIT-PROCESS, UP-MIXED, places}
-use Rattle.model.specs.Layout.{rowLength, processAddr, userAddr, roleAddr, ipcAddr, fileAddr, rightsAddr, FILE-WORDS, IPC-WORDS, KIND, PROCESS-WORDS, ROLE-WORDS, FILES-AT, RIGHTS-AT, USERS-AT, IPC-LIVE, LIVE}
+use Rattle.model.specs.Layout.{rowLength, processAddr, userAddr, roleAddr, ipcAddr, fileAddr, keptAddr, rightsAddr, FILE-WORDS, KEPT-WORDS, IPC-WORDS, KIND, PROCESS-WORDS, ROLE-WORDS, FILES-AT, RIGHTS-AT, USERS-AT, IPC-LIVE, LIVE}
 use Rattle.model.specs.Words.{_!_, block, put}
-use Rattle.model.specs.Records.{flag, kindWord, initialOf, forcedWord, forcedOf, processWords, processOf, processAt, putProcess, fileWords, putFile, fileWord, ipcWords, ipcOf, ipcAt, putIpc, roleOf, roleAt, userRole, hasRight, placeAddr, occupied, freePlace}
+use Rattle.model.specs.Records.{flag, kindWord, initialOf, forcedWord, forcedOf, processWords, processOf, processAt, putProcess, fileWords, putFile, fileWord, keptAt, ipcWords, ipcOf, ipcAt, putIpc, roleOf, roleAt, userRole, hasRight, placeAddr, occupied, freePlace}
 use Rattle.model.specs.Policy.{SamePolicy}
 use Rattle.model.proofs.Words.{put-length, word-put-other, block-put-same, block-agree, block-at, word-set-same, word-set-other}
 
@@ -60,6 +60,17 @@ module _ (t : List ℕ) where
   unfolding putIpc
   ipc-written i r = put-written (ipcAddr i) (ipcWords r)
 
+-- no write at all, a write that lies within a longer run, and one write after another
+pub unwritten : (t : List ℕ) (a n : ℕ) → Written t t a n
+unwritten t a n = record { sized = refl; other = λ b c. refl }
+
+module _ {t u : List ℕ} {a n : ℕ} (x : Written t u a n) where
+  pub written-within : (b m : ℕ) → b ≤ a → a + n ≤ b + m → Written t u b m
+  written-within b m from to = record { sized = x .sized; other = λ e c. x .other e (λ p q. c (omega arith) (omega arith)) }
+
+  pub written-then : {v : List ℕ} → Written u v a n → Written t v a n
+  written-then y = record { sized = y .sized ∙ x .sized; other = λ b c. y .other b c ∙ x .other b c }
+
 -- ---- what lies clear of a write reads as before
 
 module _ {t u : List ℕ} {a n : ℕ} (w : Written t u a n) where
@@ -89,6 +100,10 @@ module _ {t u : List ℕ} {a n : ℕ} (w : Written t u a n) where
   pub file-word-stays : (o k : ℕ) → Clear (fileAddr o + k) 1 a n → fileWord u o k ≡ fileWord t o k
   unfolding fileWord
   file-word-stays o k c = w .other (fileAddr o + k) c
+
+  pub kept-stays : (k o : ℕ) → Clear (keptAddr o + k) 1 a n → keptAt u k o ≡ keptAt t k o
+  unfolding keptAt
+  kept-stays k o c = w .other (keptAddr o + k) c
 
   pub occupied-stays : (g p : ℕ) → Clear (placeAddr g p) 1 a n → occupied u g p ≡ occupied t g p
   unfolding occupied
@@ -280,3 +295,7 @@ module _ (t : List ℕ) (e : length t ≡ rowLength) where
   pub file-word-set : (o k v : ℕ) → o < FILES → k < FILE-WORDS → fileWord (set t (fileAddr o + k) v) o k ≡ v
   unfolding fileWord
   file-word-set o k v l m = word-set-same t (fileAddr o + k) v (omega arith)
+
+  pub kept-set : (k o v : ℕ) → o < FILES → k < KEPT-WORDS → keptAt (set t (keptAddr o + k) v) k o ≡ v
+  unfolding keptAt
+  kept-set k o v l m = word-set-same t (keptAddr o + k) v (omega arith)

@@ -1,5 +1,5 @@
--- The administration calls ("Administration calls"; rules 23 to 34, H4, H5 and H7 to H11). Each writes one word of the row.
--- Adding what is there and removing what is not leaves that word as it was (H11), since `added` and `removed` do.
+-- The administration calls ("Administration calls"; rules 23 to 34, H4, H5 and H7 to H11). Each writes one word of the row, and
+-- where that is a value of a file, what is kept beside the files goes with it. Adding what is there and removing what is not leaves that word as it was (H11), since `added` and `removed` do.
 -- Assumes nothing.
 use Prim.Native.Nat.{ℕ, _+_}
 use mathlib.Core.Bool.{Bool, true, false, cond, _&&_, _||_}
@@ -9,10 +9,10 @@ use lib.ListN.{set}
 use Rattle.sets.specs.Sets.{has, added, removed}
 use Rattle.model.specs.declared.Change.{Change}
 use Rattle.model.specs.Numbers.{_unless_, _▹_, FILESYSTEM, PROCESS, COMPATIBLE-ROLES, INHERIT-PARENT, MODIFY-ATTRIBUTE, ADMIN, ASSIGN, ACCESS-CONTROL, SUPERVISOR, ROOT-TYPE, isRoot, byGroup}
-use Rattle.model.specs.Layout.{PROCESS-TYPE, PROCESS-FORCED, MARK, DEFAULTS, IPC-TYPE, PARENT, FILE-TYPE, INITIAL, FORCED, userAddr, roleAddr, fileAddr, processAddr, ipcAddr, rightsAddr}
+use Rattle.model.specs.Layout.{PROCESS-TYPE, PROCESS-FORCED, MARK, DEFAULTS, IPC-TYPE, PARENT, FILE-TYPE, INITIAL, FORCED, KEPT-TYPE, KEPT-INITIAL, KEPT-FORCED, userAddr, roleAddr, fileAddr, processAddr, ipcAddr, rightsAddr}
 use Rattle.model.specs.Words.{_!_}
-use Rattle.model.specs.Records.{fileWord, userRole, occupied}
-use Rattle.model.specs.Effective.{valueAt, typeOf}
+use Rattle.model.specs.Records.{fileWord, keptAt, userRole, occupied}
+use Rattle.model.specs.KeptValues.{typeOf, revalued}
 use Rattle.model.specs.Outcome.{Ruling, ruled}
 use Rattle.model.specs.Calls.{ownRole, may}
 
@@ -56,10 +56,10 @@ assignRoleNo t c g o v =
     ▹ 5 unless passes t c (mayAssign t c v && may t c g (typeOf t g o) MODIFY-ATTRIBUTE)
 
 unfoldable pub setInitialRow : List ℕ → ℕ → ℕ → List ℕ
-setInitialRow t f v = set t (fileAddr f + INITIAL) v
+setInitialRow t f v = revalued (set t (fileAddr f + INITIAL) v) KEPT-INITIAL f
 
 unfoldable pub setForcedRow : List ℕ → ℕ → ℕ → List ℕ
-setForcedRow t f v = set t (fileAddr f + FORCED) v
+setForcedRow t f v = revalued (set t (fileAddr f + FORCED) v) KEPT-FORCED f
 
 unfoldable pub setProcessForcedRow : List ℕ → ℕ → ℕ → List ℕ
 setProcessForcedRow t p v = set t (processAddr p + PROCESS-FORCED) v
@@ -79,7 +79,7 @@ setRoleAdminRow t r mark = set t (roleAddr r + MARK) mark
 
 -- H10: the effective type that a file which inherits would have, at a root that of a root without a type
 unfoldable pub inherited : List ℕ → ℕ → ℕ
-inherited t o = cond (isRoot o) ROOT-TYPE (valueAt t FILE-TYPE (fileWord t o PARENT))
+inherited t o = cond (isRoot o) ROOT-TYPE (keptAt t KEPT-TYPE (fileWord t o PARENT))
 
 unfoldable pub assignedType : List ℕ → ℕ → ℕ → ℕ
 assignedType t o v = cond (eqb v INHERIT-PARENT) (inherited t o) v
@@ -93,7 +93,7 @@ abbrev pub typeAddr : ℕ → ℕ → ℕ
 typeAddr g o = byGroup g (fileAddr o + FILE-TYPE) (processAddr o + PROCESS-TYPE) (ipcAddr o + IPC-TYPE)
 
 unfoldable pub setTypeRow : List ℕ → ℕ → ℕ → ℕ → List ℕ
-setTypeRow t g o v = set t (typeAddr g o) v
+setTypeRow t g o v = cond (eqb g FILESYSTEM) (revalued (set t (typeAddr g o) v) KEPT-TYPE o) (set t (typeAddr g o) v)
 
 -- ---- add or remove one right for a group, role and type
 

@@ -9,9 +9,9 @@ use Rattle.sets.specs.Below.{allBelow}
 use Rattle.sets.specs.Sets.{has}
 use Rattle.model.specs.declared.Role.{Role}
 use Rattle.model.specs.Numbers.{_unless_, _▹_, FILESYSTEM, PROCESS, IPC, PROCESSES, FILES, IPCS, FILE, DIR, DEEPEST, EXECUTE, CREATE, DELETE, CHANGE-OWNER, CLONE, isFirst, isRoot}
-use Rattle.model.specs.Layout.{KIND, PARENT, DEPTH, FILE-TYPE, INITIAL, FORCED}
-use Rattle.model.specs.Records.{processAt, putProcess, freeProcess, putFile, freeFile, fileWord, kindOf, initialOf, forcedOf, putIpc, freeIpc, roleAt, userRole, hasRight, occupied, freePlace}
-use Rattle.model.specs.Effective.{valueAt, typeOf}
+use Rattle.model.specs.Layout.{KIND, PARENT, DEPTH, KEPT-TYPE, KEPT-INITIAL, KEPT-FORCED}
+use Rattle.model.specs.Records.{processAt, putProcess, freeProcess, putFile, freeFile, fileWord, keptAt, kindOf, initialOf, forcedOf, putIpc, freeIpc, roleAt, userRole, hasRight, occupied, freePlace}
+use Rattle.model.specs.KeptValues.{typeOf, settled, unkept}
 use Rattle.model.specs.Transitions.{cloned, executed, chownRole, chowned, withRole, created}
 
 -- ---- the caller
@@ -52,12 +52,12 @@ exitRow t c = putProcess t c freeProcess
 -- ---- execute a FILE: EXECUTE to its effective type
 
 unfoldable pub executeNo : List ℕ → ℕ → ℕ → ℕ
-executeNo t c f = 4 unless eqb (fileWord t f KIND) FILE ▹ 5 unless may t c FILESYSTEM (valueAt t FILE-TYPE f) EXECUTE
+executeNo t c f = 4 unless eqb (fileWord t f KIND) FILE ▹ 5 unless may t c FILESYSTEM (keptAt t KEPT-TYPE f) EXECUTE
 
 unfoldable pub executeRow : List ℕ → ℕ → ℕ → List ℕ
 executeRow t c f =
     putProcess t c
-    (executed (ownRole t c) (userRole t (processAt t c .owner)) (initialOf (valueAt t INITIAL f)) (forcedOf (valueAt t FORCED f)) (processAt t c))
+    (executed (ownRole t c) (userRole t (processAt t c .owner)) (initialOf (keptAt t KEPT-INITIAL f)) (forcedOf (keptAt t KEPT-FORCED f)) (processAt t c))
 
 -- ---- change owner to a user: CHANGE_OWNER to own process type
 
@@ -85,12 +85,13 @@ changeRoleRow t c r = putProcess t c (withRole r (processAt t c))
 unfoldable pub createNo : List ℕ → ℕ → ℕ → ℕ
 createNo t c y =
     4 unless eqb (fileWord t y KIND) DIR
-    ▹ 5 unless may t c FILESYSTEM (valueAt t FILE-TYPE y) CREATE
+    ▹ 5 unless may t c FILESYSTEM (keptAt t KEPT-TYPE y) CREATE
     ▹ 7 unless ltb (fileWord t y DEPTH) DEEPEST
     ▹ 8 unless ltb (freePlace t FILESYSTEM) FILES
 
 unfoldable pub createRow : List ℕ → ℕ → ℕ → ℕ → List ℕ
-createRow t c kind y = putFile t (freePlace t FILESYSTEM) (created (ownRole t c) (kindOf kind) y (fileWord t y DEPTH + 1))
+createRow t c kind y =
+    settled (putFile t (freePlace t FILESYSTEM) (created (ownRole t c) (kindOf kind) y (fileWord t y DEPTH + 1))) (freePlace t FILESYSTEM)
 
 -- ---- delete file or directory: DELETE to its effective type; the place becomes free
 
@@ -108,11 +109,11 @@ removable t o = not (isRoot o) && (not (eqb (fileWord t o KIND) DIR) || childles
 unfoldable pub deleteNo : List ℕ → ℕ → ℕ → ℕ
 deleteNo t c o =
     4 unless occupied t FILESYSTEM o
-    ▹ 5 unless may t c FILESYSTEM (valueAt t FILE-TYPE o) DELETE
+    ▹ 5 unless may t c FILESYSTEM (keptAt t KEPT-TYPE o) DELETE
     ▹ 6 unless removable t o
 
 unfoldable pub deleteRow : List ℕ → ℕ → List ℕ
-deleteRow t o = putFile t o freeFile
+deleteRow t o = unkept (putFile t o freeFile) o
 
 -- ---- create IPC: CREATE to own role's IPC create type, which the object gets (rule 14)
 

@@ -11,10 +11,9 @@ use Rattle.model.specs.declared.Role.{Role}
 use Rattle.model.specs.declared.Verdict.{Verdict}
 use Rattle.model.specs.Numbers.{_unless_, _▹_, GROUPS, FILESYSTEM, PROCESS, PROCESSES, FILES, ROLES, USERS, TYPES, DIR, INHERIT-USER, UP-MIXED, WRITE, EXECUTE, CREATE, DELETE, CHANGE-OWNER, ASSIGN}
 use Rattle.model.specs.Words.{_!_}
-use Rattle.model.specs.Layout.{KIND, FILE-TYPE, INITIAL, FORCED, CLAIM-PROCESS, CLAIM-TYPE, CLAIM-S, CLAIM-Q, CLAIM-T, claimLength}
-use Rattle.model.specs.Records.{processAt, forcedWord, fileWord, roleAt, userRole, hasRight, occupied}
+use Rattle.model.specs.Layout.{KIND, KEPT-TYPE, KEPT-INITIAL, KEPT-FORCED, CLAIM-PROCESS, CLAIM-TYPE, CLAIM-S, CLAIM-Q, CLAIM-T, claimLength}
+use Rattle.model.specs.Records.{processAt, forcedWord, fileWord, keptAt, roleAt, userRole, hasRight, occupied}
 use Rattle.model.specs.WellFormed.{wellFormed}
-use Rattle.model.specs.Effective.{valueAt}
 
 -- ---- a claim: a process, a filesystem type k, a role set S, a process type set Q, and a type set T(o) for each file place o
 
@@ -61,7 +60,7 @@ ownForced t w = forcedWord (processAt t (processIn w) .forced)
 
 -- v is carried: it is the process's forced value, or the effective forced value of a startable object
 unfoldable pub carried : List ℕ → List ℕ → ℕ → Bool
-carried t w v = eqb (ownForced t w) v || someBelow FILES (λ o. startable t w o && eqb (valueAt t FORCED o) v)
+carried t w v = eqb (ownForced t w) v || someBelow FILES (λ o. startable t w o && eqb (keptAt t KEPT-FORCED o) v)
 
 -- ---- the rules
 
@@ -115,7 +114,7 @@ createsInside t w o =
 unfoldable pub holds : List ℕ → List ℕ → ℕ → Bool
 holds t w o =
     cond (occupied t FILESYSTEM o)
-    (has (T w o) (valueAt t FILE-TYPE o) && (not (eqb (fileWord t o KIND) DIR) || createsInside t w o))
+    (has (T w o) (keptAt t KEPT-TYPE o) && (not (eqb (fileWord t o KIND) DIR) || createsInside t w o))
     (eqb (T w o) 0)
 
 -- C6
@@ -125,7 +124,7 @@ C6 t w = allBelow FILES (holds t w)
 -- C7 for the place o, where it is startable: its plain effective initial and forced values are in S
 unfoldable pub starts : List ℕ → List ℕ → ℕ → Bool
 starts t w o =
-    not (startable t w o) || (plainIn (S w) (valueAt t INITIAL o) && plainIn (S w) (valueAt t FORCED o))
+    not (startable t w o) || (plainIn (S w) (keptAt t KEPT-INITIAL o) && plainIn (S w) (keptAt t KEPT-FORCED o))
 
 -- C7: a plain effective initial role of a startable object is in S, and so is each plain carried value
 unfoldable pub C7 : List ℕ → List ℕ → Bool

@@ -5,9 +5,9 @@ use mathlib.Core.Bool.{cond}
 use mathlib.Core.List.{List}
 use lib.Dec.{eqb}
 use Rattle.model.specs.declared.Climbed.{Climbed}
-use Rattle.model.specs.Numbers.{DEPTHS, INHERIT-PARENT, ROOT-TYPE, ROOT-INITIAL, ROOT-FORCED, byGroup}
+use Rattle.model.specs.Numbers.{DEPTHS, INHERIT-PARENT, ROOT-TYPE, ROOT-INITIAL, ROOT-FORCED}
 use Rattle.model.specs.Layout.{PARENT, DEPTH, FILE-TYPE, INITIAL}
-use Rattle.model.specs.Records.{fileWord, processAt, ipcAt}
+use Rattle.model.specs.Records.{fileWord}
 
 -- the climb ends at file o, where it began, with the value v
 abbrev pub endsAt : ℕ → ℕ → Climbed
@@ -34,10 +34,6 @@ climb (suc d) t slot o = ownOr t slot o (oneUp (climb d t slot (fileWord t o PAR
 unfoldable pub effective : List ℕ → ℕ → ℕ → Climbed
 effective t slot o = climb (fileWord t o DEPTH % DEPTHS) t slot o
 
--- what a call or a claim reads of a file: its effective type (rule 5), initial value (rule 17) or forced value (rule 19)
+-- the value alone: a file's effective type (rule 5), initial value (rule 17) or forced value (rule 19)
 unfoldable pub valueAt : List ℕ → ℕ → ℕ → ℕ
 valueAt t slot o = effective t slot o .value
-
--- the effective type of an object: only files inherit
-unfoldable pub typeOf : List ℕ → ℕ → ℕ → ℕ
-typeOf t g o = byGroup g (valueAt t FILE-TYPE o) (processAt t o .rctype) (ipcAt t o .rctype)

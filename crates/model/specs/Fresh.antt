@@ -11,8 +11,8 @@ use Rattle.model.specs.declared.Forced.{Forced}
 use Rattle.model.specs.declared.Process.{Process}
 use Rattle.model.specs.declared.File.{File}
 use Rattle.model.specs.declared.Role.{Role}
-use Rattle.model.specs.Numbers.{GROUPS, ROLES, USERS, TYPES, PROCESSES, FILES, IPCS, INHERIT-PARENT, ROOT, _unless_}
-use Rattle.model.specs.Layout.{PROCESS-WORDS, IPC-WORDS, FILE-WORDS, rowLength}
+use Rattle.model.specs.Numbers.{GROUPS, ROLES, USERS, TYPES, PROCESSES, FILES, IPCS, INHERIT-PARENT, ROOT, ROOT-TYPE, ROOT-INITIAL, ROOT-FORCED, _unless_}
+use Rattle.model.specs.Layout.{PROCESS-WORDS, IPC-WORDS, FILE-WORDS, KEPT-WORDS, rowLength}
 use Rattle.model.specs.Records.{processWords, fileWords, roleWords, setOf}
 use Rattle.model.specs.Outcome.{Outcome, decide}
 
@@ -67,11 +67,15 @@ freshIpc = replicate (IPCS * IPC-WORDS) 0
 abbrev pub freshFiles : List ℕ
 freshFiles = fileWords rootDir ++ replicate ((FILES - 1) * FILE-WORDS) 0
 
+-- what the root's three values read as
+abbrev pub freshKept : List ℕ
+freshKept = (ROOT-TYPE ∷ ROOT-INITIAL ∷ ROOT-FORCED ∷ []) ++ replicate ((FILES - 1) * KEPT-WORDS) 0
+
 abbrev pub freshRights : List ℕ
 freshRights = replicate (GROUPS * (ROLES * TYPES)) 0
 
 unfoldable pub fresh : List ℕ
-fresh = freshProcesses ++ freshUsers ++ freshRoles ++ freshIpc ++ freshFiles ++ freshRights
+fresh = freshProcesses ++ freshUsers ++ freshRoles ++ freshIpc ++ freshFiles ++ freshKept ++ freshRights
 
 -- building fresh tables asks only for the full length of what is overwritten
 unfoldable pub buildFresh : List ℕ → Outcome

@@ -69,6 +69,20 @@ FORCED = 5
 abbrev pub FILE-WORDS : ℕ
 FILE-WORDS = 6
 
+-- ---- the words kept beside a file: its effective type, initial and forced value; word FILE-TYPE + k of the file is its own value k
+
+abbrev pub KEPT-TYPE : ℕ
+KEPT-TYPE = 0
+
+abbrev pub KEPT-INITIAL : ℕ
+KEPT-INITIAL = 1
+
+abbrev pub KEPT-FORCED : ℕ
+KEPT-FORCED = 2
+
+abbrev pub KEPT-WORDS : ℕ
+KEPT-WORDS = 3
+
 -- ---- where each table begins
 
 abbrev pub PROCESSES-AT : ℕ
@@ -87,9 +101,12 @@ IPCS-AT = ROLES-AT + ROLES * ROLE-WORDS
 abbrev pub FILES-AT : ℕ
 FILES-AT = IPCS-AT + IPCS * IPC-WORDS
 
+abbrev pub KEPT-AT : ℕ
+KEPT-AT = FILES-AT + FILES * FILE-WORDS
+
 -- one word for each group, role and type, a set of rights
 abbrev pub RIGHTS-AT : ℕ
-RIGHTS-AT = FILES-AT + FILES * FILE-WORDS
+RIGHTS-AT = KEPT-AT + FILES * KEPT-WORDS
 
 -- the full length of all tables
 abbrev pub rowLength : ℕ
@@ -111,6 +128,9 @@ ipcAddr i = IPCS-AT + i * IPC-WORDS
 
 abbrev pub fileAddr : ℕ → ℕ
 fileAddr o = FILES-AT + o * FILE-WORDS
+
+abbrev pub keptAddr : ℕ → ℕ
+keptAddr o = KEPT-AT + o * KEPT-WORDS
 
 abbrev pub rightsAddr : ℕ → ℕ → ℕ → ℕ
 rightsAddr g r k = RIGHTS-AT + g * (ROLES * TYPES) + r * TYPES + k

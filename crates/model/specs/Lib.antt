@@ -3,11 +3,12 @@ pub mod Layout
 pub mod Ranges
 pub mod Words
 pub mod Records
+pub mod Effective
+pub mod KeptValues
 pub mod WellFormed
 pub mod Policy
 pub mod Outcome
 pub mod Fresh
-pub mod Effective
 pub mod Queries
 pub mod Transitions
 pub mod Calls

@@ -8,10 +8,10 @@ use lib.Dec.{eqb, ltb}
 use Rattle.model.specs.declared.Climbed.{Climbed}
 use Rattle.model.specs.declared.Found.{Found}
 use Rattle.model.specs.Numbers.{_unless_, _▹_, FILESYSTEM, FILES}
-use Rattle.model.specs.Layout.{KIND, FILE-TYPE, INITIAL, FORCED}
-use Rattle.model.specs.Records.{occupied}
+use Rattle.model.specs.Layout.{KIND, FILE-TYPE, INITIAL, FORCED, KEPT-TYPE}
+use Rattle.model.specs.Records.{fileWord, keptAt, occupied}
 use Rattle.model.specs.WellFormed.{wellFormed}
-use Rattle.model.specs.Effective.{effective, valueAt}
+use Rattle.model.specs.Effective.{effective}
 
 -- the number of a query on tables that are known to be well formed
 abbrev pub lookNo : List ℕ → ℕ → ℕ
@@ -25,9 +25,9 @@ abbrev pub foundBy : ℕ → Climbed → Found
 foundBy zero e = record { number = 0; value = e .value; climbed = e .climbed; place = e .place }
 foundBy (suc n) e = record { number = suc n; value = 0; climbed = 0; place = 0 }
 
--- the value that a query answers on tables that are known to be well formed, which is 0 with a refusal
+-- what a query answers on tables that are known to be well formed, where v is the value there: 0 with a refusal
 unfoldable pub look : List ℕ → ℕ → ℕ → ℕ
-look t slot o = cond (eqb (lookNo t o) 0) (valueAt t slot o) 0
+look t o v = cond (eqb (lookNo t o) 0) v 0
 
 -- a query of any row: tables that are not well formed are number 1
 unfoldable pub query : List ℕ → ℕ → ℕ → Found
@@ -47,9 +47,9 @@ queryForced t o = query t FORCED o
 abbrev pub queryKind : List ℕ → ℕ → Found
 queryKind t o = query t KIND o
 
--- of two of them the value, on tables that are known to be well formed
+-- of two of them the value, on tables that are known to be well formed: nothing is climbed
 abbrev pub lookType : List ℕ → ℕ → ℕ
-lookType t o = look t FILE-TYPE o
+lookType t o = look t o (keptAt t KEPT-TYPE o)
 
 abbrev pub lookKind : List ℕ → ℕ → ℕ
-lookKind t o = look t KIND o
+lookKind t o = look t o (fileWord t o KIND)

@@ -15,7 +15,7 @@ use Rattle.model.specs.declared.File.{File}
 use Rattle.model.specs.declared.Ipc.{Ipc}
 use Rattle.model.specs.declared.Role.{Role}
 use Rattle.model.specs.Numbers.{FREE, FILE, DIR, ROLES, byGroup, places, INHERIT-PARENT, USE-FORCED-ROLE, INHERIT-USER, INHERIT-PROCESS, UP-MIXED, COMPATIBLE-ROLES, ADMIN-ROLES, ASSIGN-ROLES, FILE-CREATE, PROCESS-CREATE, PROCESS-EXECUTE, PROCESS-CHOWN, IPC-CREATE}
-use Rattle.model.specs.Layout.{LIVE, OWNER, ROLE, PROCESS-TYPE, PROCESS-FORCED, PROCESS-WORDS, MARK, DEFAULTS, ROLE-WORDS, IPC-LIVE, IPC-TYPE, IPC-WORDS, processAddr, userAddr, roleAddr, ipcAddr, fileAddr, rightsAddr}
+use Rattle.model.specs.Layout.{LIVE, OWNER, ROLE, PROCESS-TYPE, PROCESS-FORCED, PROCESS-WORDS, MARK, DEFAULTS, ROLE-WORDS, IPC-LIVE, IPC-TYPE, IPC-WORDS, processAddr, userAddr, roleAddr, ipcAddr, fileAddr, keptAddr, rightsAddr}
 use Rattle.model.specs.Words.{_!_, block, put}
 
 -- ---- special cases as numbers, and numbers as special cases
@@ -85,6 +85,10 @@ freeFile = record { kind = Kind.Free; parent = 0; depth = 0; rctype = 0; initial
 -- one word of a file, by its name in the layout
 unfoldable pub fileWord : List ℕ → ℕ → ℕ → ℕ
 fileWord t o k = t ! (fileAddr o + k)
+
+-- value k kept beside a file: its effective type, initial or forced value
+unfoldable pub keptAt : List ℕ → ℕ → ℕ → ℕ
+keptAt t k o = t ! (keptAddr o + k)
 
 -- ---- IPC objects
 

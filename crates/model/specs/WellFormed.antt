@@ -7,10 +7,11 @@ use lib.ListN.{length}
 use lib.Dec.{ltb, leb, eqb}
 use Rattle.sets.specs.Below.{allBelow}
 use Rattle.model.specs.Numbers.{FILESYSTEM, PROCESS, PROCESSES, FILES, IPCS, ROLES, USERS, TYPES, FREE, DIR, DEEPEST, FILE-CREATE, PROCESS-CREATE, PROCESS-EXECUTE, PROCESS-CHOWN, IPC-CREATE, FIRST-PROCESS, ROOT, isRoot}
-use Rattle.model.specs.Layout.{LIVE, OWNER, ROLE, PROCESS-TYPE, PROCESS-FORCED, PROCESS-WORDS, MARK, DEFAULTS, ROLE-WORDS, IPC-LIVE, IPC-TYPE, IPC-WORDS, KIND, PARENT, DEPTH, FILE-TYPE, INITIAL, FORCED, FILE-WORDS, processAddr, userAddr, roleAddr, ipcAddr, fileAddr, rowLength}
+use Rattle.model.specs.Layout.{LIVE, OWNER, ROLE, PROCESS-TYPE, PROCESS-FORCED, PROCESS-WORDS, MARK, DEFAULTS, ROLE-WORDS, IPC-LIVE, IPC-TYPE, IPC-WORDS, KIND, PARENT, DEPTH, FILE-TYPE, INITIAL, FORCED, FILE-WORDS, KEPT-WORDS, processAddr, userAddr, roleAddr, ipcAddr, fileAddr, rowLength}
 use Rattle.model.specs.Words.{_!_, block}
 use Rattle.model.specs.Ranges.{okType, okInitial, okForced, okProcessForced, okDefault}
-use Rattle.model.specs.Records.{occupied}
+use Rattle.model.specs.Records.{keptAt, occupied}
+use Rattle.model.specs.Effective.{valueAt}
 
 -- ---- the words of a record: those of a free place are zeros only
 
@@ -72,7 +73,12 @@ unfoldable pub fileOk : List ℕ → ℕ → Bool
 fileOk t o =
     fileWordsOk o (block t (fileAddr o) FILE-WORDS) (block t (fileAddr (block t (fileAddr o) FILE-WORDS ! PARENT)) FILE-WORDS)
 
--- every table has its full length, every number is in its range, free places hold zeros, process 0 is live, the files are a tree
+-- W-206: each value kept for a file place is the climb's; the words of a free place are zeros, so that its kept ones are zeros too
+unfoldable pub keptOk : List ℕ → ℕ → Bool
+keptOk t o = allBelow KEPT-WORDS (λ k. eqb (keptAt t k o) (valueAt t (FILE-TYPE + k) o))
+
+-- every table has its full length, every number is in its range, free places hold zeros, process 0 is live, the files are a tree, and what is
+-- kept beside them is what the climb gives
 unfoldable pub wellFormed : List ℕ → Bool
 wellFormed t =
     eqb (length t) rowLength
@@ -81,5 +87,6 @@ wellFormed t =
     && allBelow ROLES (roleOk t)
     && allBelow IPCS (ipcOk t)
     && allBelow FILES (fileOk t)
+    && allBelow FILES (keptOk t)
     && occupied t PROCESS FIRST-PROCESS
     && occupied t FILESYSTEM ROOT

@@ -51,6 +51,15 @@ pub const FORCED: u32 = 5;
 
 pub const FILE_WORDS: usize = 6;
 
+// The words kept beside a file: value k of the file itself is its word FILE_TYPE + k.
+pub const KEPT_TYPE: u32 = 0;
+
+pub const KEPT_INITIAL: u32 = 1;
+
+pub const KEPT_FORCED: u32 = 2;
+
+pub const KEPT_WORDS: usize = 3;
+
 // Where each table begins: where the one before it ends.
 pub const PROCESSES_AT: usize = 0;
 
@@ -62,7 +71,9 @@ pub const IPCS_AT: usize = ROLES_AT + (ROLES as usize) * ROLE_WORDS;
 
 pub const FILES_AT: usize = IPCS_AT + (IPCS as usize) * IPC_WORDS;
 
-pub const RIGHTS_AT: usize = FILES_AT + (FILES as usize) * FILE_WORDS;
+pub const KEPT_AT: usize = FILES_AT + (FILES as usize) * FILE_WORDS;
+
+pub const RIGHTS_AT: usize = KEPT_AT + (FILES as usize) * KEPT_WORDS;
 
 // The rights of one group.
 pub const GROUP_RIGHTS: usize = (ROLES as usize) * (TYPES as usize);

@@ -5,10 +5,9 @@ use crate::words;
 use claimroles::plain_in;
 use claims::check;
 use claimsets::reach;
-use effective::values::value_at;
 use model::layout::CLAIM_TYPE;
-use model::layout::FORCED;
-use model::layout::INITIAL;
+use model::layout::KEPT_FORCED;
+use model::layout::KEPT_INITIAL;
 use model::numbers::CREATE;
 use model::numbers::DELETE;
 use model::numbers::EXECUTE;
@@ -19,6 +18,7 @@ use sets::RoleSet;
 use tables::claim::roles_in;
 use tables::claim::types_in;
 use tables::records::has_right;
+use tables::records::kept_at;
 use tables::records::role_at;
 use tables::words::word;
 
@@ -85,8 +85,8 @@ fn outsider(family: RoleSet, program: u32, role: u32) {
 fn brings(t: &[u32], w: &[u32], file: u32) {
     let family = roles_in(w);
     if types_in(w, file).meets(reach(t, family, FILESYSTEM, EXECUTE)) {
-        outsider(family, file, value_at(t, INITIAL, file));
-        outsider(family, file, value_at(t, FORCED, file));
+        outsider(family, file, kept_at(t, KEPT_INITIAL, file));
+        outsider(family, file, kept_at(t, KEPT_FORCED, file));
     }
 }
 

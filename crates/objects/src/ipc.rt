@@ -2,7 +2,7 @@
 use caller::may;
 use caller::own_role;
 use decisions::decide_words;
-use effective::type_of;
+use kept::type_of;
 use model::Answer;
 use model::Ipc;
 use model::numbers::CREATE;

@@ -4,11 +4,10 @@ use caller::may;
 use caller::may_self;
 use caller::own_role;
 use decisions::decide_words;
-use effective::values::value_at;
 use model::Answer;
-use model::layout::FILE_TYPE;
-use model::layout::FORCED;
-use model::layout::INITIAL;
+use model::layout::KEPT_FORCED;
+use model::layout::KEPT_INITIAL;
+use model::layout::KEPT_TYPE;
 use model::layout::KIND;
 use model::numbers::CHANGE_OWNER;
 use model::numbers::CLONE;
@@ -31,25 +30,36 @@ use tables::cases::forced_of;
 use tables::cases::initial_of;
 use tables::places::free_place;
 use tables::records::file_word;
+use tables::records::kept_at;
 use tables::records::process_at;
 use tables::records::process_words;
 use tables::records::role_at;
 use tables::records::user_role;
 ghost use mathlib.Core.Path.{_≡_};
+ghost use lib.Dec.{ltb};
 ghost use Rattle.model.specs.declared.Call.{Call};
+ghost use Rattle.model.specs.Numbers.{_unless_, _▹_, CLONE, PROCESSES};
 ghost use Rattle.model.specs.Outcome.{outcome, carryOut};
-ghost use Rattle.model.specs.Calls.{executeNo, roleUnder};
+ghost use Rattle.model.specs.Calls.{maySelf, executeNo, roleUnder};
 ghost use Rattle.model.specs.Step.{ruling};
+
+// The number of a clone, where the lowest free place is known: the right, then the room. It is decided by a branch, so that the compiler takes
+// the cheaper way.
+fn clone_no(t: &[u32], caller: u32, place: u32) -> u32
+    ensures { λ r. ⌜ r ≡ 5 unless maySelf (now (t .entry)) caller CLONE ▹ 8 unless ltb place PROCESSES ⌝ }
+{
+    if !may_self(t, caller, CLONE) {
+        return 5;
+    }
+    unless(8, place < PROCESSES)
+}
 
 // CLONE to own process type; the child takes the lowest free place (rules 2 and 8, H1).
 pub fn clone(t: &mut [u32], caller: u32) -> Answer
     ensures { λ r. ⌜ outcome r (now (t .exit)) ≡ carryOut (now (t .entry)) (ruling (now (t .entry)) caller Call.Clone) ⌝ }
 {
     let place = free_place(t, PROCESS);
-    let number = first(
-        unless(5, may_self(t, caller, CLONE)),
-        unless(8, place < PROCESSES),
-    );
+    let number = clone_no(t, caller, place);
     let child = process_words(cloned(own_role(t, caller), process_at(t, caller)));
     decide_words(t, number, place, process_addr(place), &child)
 }
@@ -71,7 +81,7 @@ fn execute_no(t: &[u32], caller: u32, file: u32) -> u32
         unless(4, file_word(t, file, KIND) == FILE),
         unless(
             5,
-            may(t, caller, FILESYSTEM, value_at(t, FILE_TYPE, file), EXECUTE),
+            may(t, caller, FILESYSTEM, kept_at(t, KEPT_TYPE, file), EXECUTE),
         ),
     )
 }
@@ -82,8 +92,8 @@ pub fn execute(t: &mut [u32], caller: u32, file: u32) -> Answer
 {
     let number = execute_no(t, caller, file);
     let me = process_at(t, caller);
-    let initial = initial_of(value_at(t, INITIAL, file));
-    let forced = forced_of(value_at(t, FORCED, file));
+    let initial = initial_of(kept_at(t, KEPT_INITIAL, file));
+    let forced = forced_of(kept_at(t, KEPT_FORCED, file));
     let owner_role = user_role(t, me.owner);
     let next = process_words(executed(own_role(t, caller), owner_role, initial, forced, me));
     decide_words(t, number, 0, process_addr(caller), &next)

@@ -1,22 +1,23 @@
--- What a call changes. A refusal leaves the row; a grant leaves the row with one run of words put into it, and what is read after a put is known
--- once for every address and length.
+-- What a call changes. A refusal leaves the row; a grant leaves the row with one run of words put into it, and then writes among what is kept beside
+-- the files; what is read after a put is known once for every address and length.
 -- Assumes nothing.
-use Prim.Native.Nat.{_+_, _<_, _≤_, ℕ}
+use Prim.Native.Nat.{_+_, _*_, _<_, _≤_, ℕ}
 use mathlib.Core.List.{List, [], _∷_}
 use mathlib.Core.Path.{_∙_, _≡_, ap, refl, sym}
-use mathlib.Core.Bool.{true, not}
-use mathlib.Core.Logic.{⊎-elim}
+use mathlib.Core.Bool.{cond, true, not}
+use mathlib.Core.Logic.{_⊎_, inl, inr, ⊎-elim}
 use native.Mathlib.Nat.{add-zero}
 use native.Mathlib.Omega.{arith}
 use borrow.Author.Tests.{ltb-true, not-false}
+use lib.Dec.{eqb}
 use lib.Seq.{set-getD}
 use lib.ListN.{length, set}
 use Rattle.sets.proofs.Below.{first-least, lt-or-le}
 use Rattle.sets.proofs.Sets.{added-there, removed-absent}
 use Rattle.model.specs.declared.Call.{Call}
 use Rattle.model.specs.declared.Change.{Change}
-use Rattle.model.specs.Numbers.{FILES, GROUPS, IPCS, _unless_, _▹_, places}
-use Rattle.model.specs.Layout.{rowLength}
+use Rattle.model.specs.Numbers.{FILES, FILESYSTEM, GROUPS, IPC, IPCS, PROCESS, _unless_, _▹_, places}
+use Rattle.model.specs.Layout.{FILE-TYPE, KEPT-AT, KEPT-FORCED, KEPT-INITIAL, KEPT-TYPE, KEPT-WORDS, RIGHTS-AT, fileAddr, rowLength}
 use Rattle.model.specs.Ranges.{rangedChange}
 use Rattle.model.specs.Words.{put, _!_}
 use Rattle.model.specs.Records.{putFile, putIpc, putProcess, freePlace, hasRight, occupied}
@@ -25,13 +26,15 @@ use Rattle.model.specs.Outcome.{Outcome, granting, Ruling}
 use Rattle.model.specs.Calls.{changeOwnerRow, changeRoleRow, cloneRow, createIpcRow, createRow, deleteIpcRow, deleteRow, executeRow, exitRow}
 use Rattle.model.specs.Administration.{changeRightRow, changeSetRow, rulingOn, setDefaultTypeRow, setForcedRow, setInitialRow, setProcessForcedRow, setRoleAdminRow, setTypeRow, setUserRoleRow, typeAddr}
 use Rattle.model.specs.Step.{ruling, step, number}
+use Rattle.model.specs.KeptValues.{revalued}
 use Rattle.model.proofs.Words.{block-put-same, put-length, word-put-other}
-use Rattle.model.proofs.Records.{by-group, free-place}
+use Rattle.model.proofs.Records.{Written, block-stays, by-group, free-place, unwritten, written-within}
+use Rattle.model.proofs.KeptValues.{revalued-written, settled-written, unkept-written}
 use Rattle.model.proofs.Decided.{decide-granting, decide-refusing, decided, tested}
 use Rattle.model.proofs.Granted.{Granted, clone-granted, create-granted, create-ipc-granted, granted-by}
 use Rattle.model.proofs.Formed.{facts}
 use Rattle.promises.specs.Promises.{A-granted-call-changes-one-record, A-refused-call-changes-nothing, A-grant-answers-the-place-taken, Adding-what-is-there-or-removing-what-is-not-changes-nothing, Every-answer-fits-two-bytes, The-place-taken-is-the-lowest-free-one}
-use Rattle.promises.specs.Writes.{changeWrites, writes, placeTaken, Write}
+use Rattle.promises.specs.Writes.{changeWrites, writes, placeTaken, Write, Wrote}
 use Rattle.promises.proofs.Numbers.{a-call-answers-0-to-8, step-number, step-granted}
 use denote.Index.{place}
 
@@ -50,69 +53,97 @@ one-word : (t : List ℕ) (a v : ℕ) → set t a v ≡ put t a (v ∷ [])
 unfolding put
 one-word t a v = rw add-zero
 
+-- where a call writes: among the tables, and apart from what is kept beside the files
+abbrev Apart : Write → Type 0
+Apart x = (x .at + length (x .words) ≤ KEPT-AT) ⊎ ((RIGHTS-AT ≤ x .at) × (x .at + length (x .words) ≤ rowLength))
+
 module _ (t : List ℕ) (c : ℕ) where
-  -- a ruling leaves the row with what is written, and answers a place
+  -- a ruling leaves the row with what is written, but for what is kept, and answers a place
   abbrev Leaves : Write → ℕ → Ruling → Type 0
-  Leaves x place r = (r .row ≡ put t (x .at) (x .words)) × (r .place ≡ place)
+  Leaves x place r = Written (put t (x .at) (x .words)) (r .row) KEPT-AT (FILES * KEPT-WORDS) × (r .place ≡ place)
 
-  change-leaves : (change : Change) → Leaves (changeWrites t change) 0 (rulingOn t c change)
+  -- all there is to it
+  just : (x : Write) (u : List ℕ) → u ≡ put t (x .at) (x .words) → Written (put t (x .at) (x .words)) u KEPT-AT (FILES * KEPT-WORDS)
+  just x u e = rw e (unwritten _ _ _)
+
+  -- a value of a file, and what is kept goes with it
+  value-leaves : (k o v : ℕ) → k < KEPT-WORDS → o < FILES
+      → Written (put t (fileAddr o + (FILE-TYPE + k)) (v ∷ [])) (revalued (set t (fileAddr o + (FILE-TYPE + k)) v) k o) KEPT-AT (FILES * KEPT-WORDS)
+  value-leaves k o v m l = rw (← one-word t (fileAddr o + (FILE-TYPE + k)) v) (revalued-written k m (set t (fileAddr o + (FILE-TYPE + k)) v) o l)
+
+  type-leaves : (g o v : ℕ) → g < GROUPS → o < places g
+      → Written (put t (typeAddr g o) (v ∷ [])) (cond (eqb g FILESYSTEM) (revalued (set t (typeAddr g o) v) KEPT-TYPE o) (set t (typeAddr g o) v)) KEPT-AT (FILES * KEPT-WORDS)
+  type-leaves g o v =
+      by-group
+      (λ g. o < places g
+      → Written (put t (typeAddr g o) (v ∷ [])) (cond (eqb g FILESYSTEM) (revalued (set t (typeAddr g o) v) KEPT-TYPE o) (set t (typeAddr g o) v)) KEPT-AT (FILES * KEPT-WORDS))
+      (λ l. value-leaves KEPT-TYPE o v (omega arith) l)
+      (λ l. rw (one-word t (typeAddr PROCESS o) v) (unwritten _ _ _))
+      (λ l. rw (one-word t (typeAddr IPC o) v) (unwritten _ _ _))
+      g
+
+  change-leaves : (change : Change) → rangedChange change ≡ true → Leaves (changeWrites t change) 0 (rulingOn t c change)
   unfolding rulingOn changeSetRow setUserRoleRow setInitialRow setForcedRow setProcessForcedRow setDefaultTypeRow setRoleAdminRow setTypeRow changeRightRow
-  change-leaves (Change.AddRole s r member) = (one-word t _ _, refl)
-  change-leaves (Change.RemoveRole s r member) = (one-word t _ _, refl)
-  change-leaves (Change.SetUserRole u r) = (one-word t _ _, refl)
-  change-leaves (Change.SetInitial f v) = (one-word t _ _, refl)
-  change-leaves (Change.SetForced f v) = (one-word t _ _, refl)
-  change-leaves (Change.SetProcessForced p v) = (one-word t _ _, refl)
-  change-leaves (Change.SetDefaultType which r v) = (one-word t _ _, refl)
-  change-leaves (Change.SetRoleAdmin r mark) = (one-word t _ _, refl)
-  change-leaves (Change.SetType g o v) = (one-word t (typeAddr g o) v, refl)
-  change-leaves (Change.AddRight g r k right) = (one-word t _ _, refl)
-  change-leaves (Change.RemoveRight g r k right) = (one-word t _ _, refl)
+  change-leaves (Change.AddRole s r member) l = (just _ _ (one-word t _ _), refl)
+  change-leaves (Change.RemoveRole s r member) l = (just _ _ (one-word t _ _), refl)
+  change-leaves (Change.SetUserRole u r) l = (just _ _ (one-word t _ _), refl)
+  change-leaves (Change.SetInitial f v) l = let h = simp tested at l in (value-leaves KEPT-INITIAL f v (omega arith) (h .0), refl)
+  change-leaves (Change.SetForced f v) l = let h = simp tested at l in (value-leaves KEPT-FORCED f v (omega arith) (h .0), refl)
+  change-leaves (Change.SetProcessForced p v) l = (just _ _ (one-word t _ _), refl)
+  change-leaves (Change.SetDefaultType which r v) l = (just _ _ (one-word t _ _), refl)
+  change-leaves (Change.SetRoleAdmin r mark) l = (just _ _ (one-word t _ _), refl)
+  change-leaves (Change.SetType g o v) l = let h = simp tested at l in (type-leaves g o v (h .0 .0) (h .0 .1), refl)
+  change-leaves (Change.AddRight g r k right) l = (just _ _ (one-word t _ _), refl)
+  change-leaves (Change.RemoveRight g r k right) l = (just _ _ (one-word t _ _), refl)
 
-  call-leaves : (call : Call) → Leaves (writes t c call) (placeTaken t call) (ruling t c call)
+  call-leaves : (call : Call) → Granted t c call → Leaves (writes t c call) (placeTaken t call) (ruling t c call)
   unfolding ruling cloneRow exitRow executeRow changeOwnerRow changeRoleRow createRow deleteRow createIpcRow deleteIpcRow putProcess putFile putIpc put
-  call-leaves (Call.Access g o right) = (refl, refl)
-  call-leaves Call.Clone = (refl, refl)
-  call-leaves Call.Exit = (refl, refl)
-  call-leaves (Call.Execute f) = (refl, refl)
-  call-leaves (Call.ChangeOwner u) = (refl, refl)
-  call-leaves (Call.ChangeRole r) = (refl, refl)
-  call-leaves (Call.Create kind y) = (refl, refl)
-  call-leaves (Call.Delete o) = (refl, refl)
-  call-leaves Call.CreateIpc = (refl, refl)
-  call-leaves (Call.DeleteIpc i) = (refl, refl)
-  call-leaves (Call.Administer change) = change-leaves change
+  call-leaves (Call.Access g o right) h = (unwritten _ _ _, refl)
+  call-leaves Call.Clone h = (unwritten _ _ _, refl)
+  call-leaves Call.Exit h = (unwritten _ _ _, refl)
+  call-leaves (Call.Execute f) h = (unwritten _ _ _, refl)
+  call-leaves (Call.ChangeOwner u) h = (unwritten _ _ _, refl)
+  call-leaves (Call.ChangeRole r) h = (unwritten _ _ _, refl)
+  call-leaves (Call.Create kind y) h =
+      let l = create-granted t c y .0 (h .ruled) .room in
+      (written-within (settled-written _ _) _ _ (omega arith) (omega arith), refl)
+  call-leaves (Call.Delete o) h =
+      let l = ltb-true o FILES (h .ranged) in
+      (written-within (unkept-written _ o) _ _ (omega arith) (omega arith), refl)
+  call-leaves Call.CreateIpc h = (unwritten _ _ _, refl)
+  call-leaves (Call.DeleteIpc i) h = (unwritten _ _ _, refl)
+  call-leaves (Call.Administer change) h = change-leaves change (h .ranged)
 
   -- ---- it lies within the tables
 
-  type-fits : (g o : ℕ) → g < GROUPS → o < places g → typeAddr g o + 1 ≤ rowLength
-  type-fits g o = by-group (λ g. o < places g → typeAddr g o + 1 ≤ rowLength) (λ l. omega arith) (λ l. omega arith) (λ l. omega arith) g
+  type-fits : (g o : ℕ) → g < GROUPS → o < places g → typeAddr g o + 1 ≤ KEPT-AT
+  type-fits g o = by-group (λ g. o < places g → typeAddr g o + 1 ≤ KEPT-AT) (λ l. omega arith) (λ l. omega arith) (λ l. omega arith) g
 
-  change-fits : (change : Change) → rangedChange change ≡ true → changeWrites t change .at + length (changeWrites t change .words) ≤ rowLength
-  change-fits (Change.AddRole s r member) l = let h = simp tested at l in omega arith
-  change-fits (Change.RemoveRole s r member) l = let h = simp tested at l in omega arith
-  change-fits (Change.SetUserRole u r) l = let h = simp tested at l in omega arith
-  change-fits (Change.SetInitial f v) l = let h = simp tested at l in omega arith
-  change-fits (Change.SetForced f v) l = let h = simp tested at l in omega arith
-  change-fits (Change.SetProcessForced p v) l = let h = simp tested at l in omega arith
-  change-fits (Change.SetDefaultType which r v) l = let h = simp tested at l in omega arith
-  change-fits (Change.SetRoleAdmin r mark) l = let h = simp tested at l in omega arith
-  change-fits (Change.SetType g o v) l = let h = simp tested at l in type-fits g o (h .0 .0) (h .0 .1)
-  change-fits (Change.AddRight g r k right) l = let h = simp tested at l in omega arith
-  change-fits (Change.RemoveRight g r k right) l = let h = simp tested at l in omega arith
+  change-fits : (change : Change) → rangedChange change ≡ true → Apart (changeWrites t change)
+  change-fits (Change.AddRole s r member) l = let h = simp tested at l in inl (omega arith)
+  change-fits (Change.RemoveRole s r member) l = let h = simp tested at l in inl (omega arith)
+  change-fits (Change.SetUserRole u r) l = let h = simp tested at l in inl (omega arith)
+  change-fits (Change.SetInitial f v) l = let h = simp tested at l in inl (omega arith)
+  change-fits (Change.SetForced f v) l = let h = simp tested at l in inl (omega arith)
+  change-fits (Change.SetProcessForced p v) l = let h = simp tested at l in inl (omega arith)
+  change-fits (Change.SetDefaultType which r v) l = let h = simp tested at l in inl (omega arith)
+  change-fits (Change.SetRoleAdmin r mark) l = let h = simp tested at l in inl (omega arith)
+  change-fits (Change.SetType g o v) l = let h = simp tested at l in inl (type-fits g o (h .0 .0) (h .0 .1))
+  change-fits (Change.AddRight g r k right) l = let h = simp tested at l in inr (omega arith, omega arith)
+  change-fits (Change.RemoveRight g r k right) l = let h = simp tested at l in inr (omega arith, omega arith)
 
-  call-fits : (call : Call) → Granted t c call → writes t c call .at + length (writes t c call .words) ≤ rowLength
+  call-fits : (call : Call) → Granted t c call → Apart (writes t c call)
   unfolding ruling
-  call-fits (Call.Access g o right) h = omega arith
-  call-fits Call.Clone h = let l = clone-granted t c .0 (h .ruled) .room in omega arith
-  call-fits Call.Exit h = let l = h .caller .placed in omega arith
-  call-fits (Call.Execute f) h = let l = h .caller .placed in omega arith
-  call-fits (Call.ChangeOwner u) h = let l = h .caller .placed in omega arith
-  call-fits (Call.ChangeRole r) h = let l = h .caller .placed in omega arith
-  call-fits (Call.Create kind y) h = let l = create-granted t c y .0 (h .ruled) .room in omega arith
-  call-fits (Call.Delete o) h = let l = ltb-true o FILES (h .ranged) in omega arith
-  call-fits Call.CreateIpc h = let l = create-ipc-granted t c .0 (h .ruled) .room in omega arith
-  call-fits (Call.DeleteIpc i) h = let l = ltb-true i IPCS (h .ranged) in omega arith
+  call-fits (Call.Access g o right) h = inl (omega arith)
+  call-fits Call.Clone h = let l = clone-granted t c .0 (h .ruled) .room in inl (omega arith)
+  call-fits Call.Exit h = let l = h .caller .placed in inl (omega arith)
+  call-fits (Call.Execute f) h = let l = h .caller .placed in inl (omega arith)
+  call-fits (Call.ChangeOwner u) h = let l = h .caller .placed in inl (omega arith)
+  call-fits (Call.ChangeRole r) h = let l = h .caller .placed in inl (omega arith)
+  call-fits (Call.Create kind y) h = let l = create-granted t c y .0 (h .ruled) .room in inl (omega arith)
+  call-fits (Call.Delete o) h = let l = ltb-true o FILES (h .ranged) in inl (omega arith)
+  call-fits Call.CreateIpc h = let l = create-ipc-granted t c .0 (h .ruled) .room in inl (omega arith)
+  call-fits (Call.DeleteIpc i) h = let l = ltb-true i IPCS (h .ranged) in inl (omega arith)
   call-fits (Call.Administer change) h = change-fits change (h .ranged)
 
   -- ---- the place taken is one of its table
@@ -137,19 +168,32 @@ unfolding step
 granted-outcome t c call e =
     decide-granting t (1 unless wellFormed t ▹ number t c call) (ruling t c call .place) (ruling t c call .row) (sym (step-number t c call) ∙ e)
 
+pub granted-row : (t : List ℕ) (c : ℕ) (call : Call) → step t c call .answer .number ≡ 0 → step t c call .after ≡ ruling t c call .row
+granted-row t c call e = ap (λ (o : Outcome). o .after) (granted-outcome t c call e)
+
+-- words that were put, with what is kept written after them
+wrote : (t u : List ℕ) (x : Write) → length t ≡ rowLength → Apart x → Written (put t (x .at) (x .words)) u KEPT-AT (FILES * KEPT-WORDS) → Wrote t u x
+wrote t u x sized fits y =
+    record {
+      sized = y .sized ∙ put-length t (x .at) (x .words);
+      there =
+          block-stays y (x .at) (length (x .words)) (⊎-elim (λ l. omega arith) (λ l. omega arith) fits)
+          ∙ block-put-same t (x .at) (x .words) (⊎-elim (λ l. omega arith) (λ l. omega arith) fits);
+      others = λ b c d. y .other b (⊎-elim (λ l. omega arith) (λ l. omega arith) d) ∙ word-put-other t (x .at) (x .words) b c;
+    }
+
 pub a-granted-call-changes-one-record : A-granted-call-changes-one-record
 a-granted-call-changes-one-record t c call e =
     let h = step-granted t c call .0 e in
-    let fits = call-fits t c call (granted-by t c call .0 (h .1)) in
-    let sized = facts t (h .0) .sized in
-    let row : step t c call .after ≡ put t (writes t c call .at) (writes t c call .words) =
-    ap (λ (o : Outcome). o .after) (granted-outcome t c call e) ∙ call-leaves t c call .0 in
-    rw row (record { sized = put-length t _ _; there = block-put-same t _ _ (omega arith); others = word-put-other t _ _ })
+    let g = granted-by t c call .0 (h .1) in
+    rw (granted-row t c call e) (wrote t _ (writes t c call) (facts t (h .0) .formed .sized) (call-fits t c call g) (call-leaves t c call g .0))
 
 -- ---- the place answered
 
 pub a-grant-answers-the-place-taken : A-grant-answers-the-place-taken
-a-grant-answers-the-place-taken t c call e = ap (λ (o : Outcome). o .answer .place) (granted-outcome t c call e) ∙ call-leaves t c call .1
+a-grant-answers-the-place-taken t c call e =
+    let h = step-granted t c call .0 e in
+    ap (λ (o : Outcome). o .answer .place) (granted-outcome t c call e) ∙ call-leaves t c call (granted-by t c call .0 (h .1)) .1
 
 pub every-answer-fits-two-bytes : Every-answer-fits-two-bytes
 every-answer-fits-two-bytes t c call =

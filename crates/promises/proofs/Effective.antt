@@ -18,7 +18,7 @@ use Rattle.model.specs.Effective.{effective, endsAt, rootValue, valueAt}
 use Rattle.model.specs.Queries.{foundBy, query, queryNo}
 use Rattle.model.proofs.Effective.{ComesDown, effective-all, effective-bound, effective-own, effective-top, effective-up}
 use Rattle.model.proofs.Records.{file-occupied}
-use Rattle.model.proofs.Formed.{WellFormed, facts, used-file}
+use Rattle.model.proofs.Formed.{Formed, facts, used-file}
 use Rattle.promises.specs.Promises.{A-query-answers-the-effective-value, A-query-of-the-kind-answers-FILE-or-DIR, A-query-answers-the-place-its-value-came-from, Asked-at-that-place-a-query-answers-the-same, At-most-15-parents-are-climbed, CameFrom, Inherits, Rule-17, Rule-19, Rule-5, The-count-is-the-number-of-parents-climbed, nthParent}
 use Rattle.promises.specs.Tests.{Hold, queryTests}
 use Rattle.promises.proofs.Numbers.{a-query-is-answered-exactly-when-its-tests-hold, found-number}
@@ -26,8 +26,8 @@ use Rattle.promises.proofs.Numbers.{a-query-is-answered-exactly-when-it
 inherits : (slot default : ℕ) → rootValue slot ≡ default → Inherits slot default
 unfolding valueAt
 inherits slot default top t o e l used = (
-  λ z n. ap (λ (x : Climbed). x .value) (effective-up t (facts t e) slot o l used n z),
-  λ z r. rw r (ap (λ (x : Climbed). x .value) (effective-top t (facts t e) slot (rw r at z)) ∙ top),
+  λ z n. ap (λ (x : Climbed). x .value) (effective-up t (facts t e .formed) slot o l used n z),
+  λ z r. rw r (ap (λ (x : Climbed). x .value) (effective-top t (facts t e .formed) slot (rw r at z)) ∙ top),
   λ n. ap (λ (x : Climbed). x .value) (effective-own t slot o n),
 )
 
@@ -47,8 +47,8 @@ rule-19 = inherits FORCED UP-MIXED refl
 
 pub the-count-is-the-number-of-parents-climbed : The-count-is-the-number-of-parents-climbed
 the-count-is-the-number-of-parents-climbed t slot o e l used = (
-  λ z n. ap (λ (x : Climbed). x .climbed) (effective-up t (facts t e) slot o l used n z),
-  λ z r. rw r (ap (λ (x : Climbed). x .climbed) (effective-top t (facts t e) slot (rw r at z))),
+  λ z n. ap (λ (x : Climbed). x .climbed) (effective-up t (facts t e .formed) slot o l used n z),
+  λ z r. rw r (ap (λ (x : Climbed). x .climbed) (effective-top t (facts t e .formed) slot (rw r at z))),
   λ n. ap (λ (x : Climbed). x .climbed) (effective-own t slot o n),
 )
 
@@ -72,11 +72,11 @@ answered t slot o e = (
 )
 
 -- so that what comes down from where climbs end holds of it
-answered-all : (t : List ℕ) (slot : ℕ) (P : ℕ → Climbed → Type 0) → (WellFormed t → ComesDown t slot P)
+answered-all : (t : List ℕ) (slot : ℕ) (P : ℕ → Climbed → Type 0) → (Formed t → ComesDown t slot P)
     → (o : ℕ) → query t slot o .number ≡ 0 → P o (effective t slot o)
 answered-all t slot P p o e =
     let (formed, (placed, (used, _))) = answered t slot o e .0 in
-    effective-all t (facts t formed) slot P (p (facts t formed)) o (ltb-true o FILES placed) used
+    effective-all t (facts t formed .formed) slot P (p (facts t formed .formed)) o (ltb-true o FILES placed) used
 
 -- a climb passes the file that it began at, and then those that the parent's climb passes
 passes-one-more : (t : List ℕ) (slot o : ℕ) (e : Climbed) → fileWord t o slot ≡ INHERIT-PARENT
@@ -116,12 +116,14 @@ asked-at-that-place-a-query-answers-the-same t slot o e =
 
 pub a-query-answers-the-effective-value : A-query-answers-the-effective-value
 unfolding valueAt
-a-query-answers-the-effective-value t slot o e = rw (answered t slot o e .1)
+a-query-answers-the-effective-value t slot o e =
+    let ((formed, (placed, _)), found) = answered t slot o e in
+    (rw found, λ k m s. rw (found, s) (sym (unfold valueAt in facts t formed .kept k o m (ltb-true o FILES placed))))
 
 pub a-query-of-the-kind-answers-FILE-or-DIR : A-query-of-the-kind-answers-FILE-or-DIR
 a-query-of-the-kind-answers-FILE-or-DIR t o e =
     let ((formed, (placed, (used, _))), found) = answered t KIND o e in
-    let most = used-file t (facts t formed) o (ltb-true o FILES placed) used .kind in
+    let most = used-file t (facts t formed .formed) o (ltb-true o FILES placed) used .kind in
     let least = eqb-false (fileWord t o KIND) FREE (not-true _ (sym (file-occupied t o) ∙ used)) in
     (found ∙ ap (foundBy 0) (effective-own t KIND o (omega arith)), one-of (fileWord t o KIND) least most)
   where

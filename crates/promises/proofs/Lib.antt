@@ -2,6 +2,7 @@ pub mod First
 pub mod Numbers
 pub mod Claims
 pub mod Changes
+pub mod KeptValues
 pub mod Policy
 pub mod Formed
 pub mod Effective

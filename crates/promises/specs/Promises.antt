@@ -15,20 +15,20 @@ use Rattle.model.specs.declared.Answer.{Answer}
 use Rattle.model.specs.declared.Call.{Call}
 use Rattle.model.specs.declared.Change.{Change}
 use Rattle.model.specs.Numbers.{DEEPEST, DIR, FILE, FILES, FILESYSTEM, INHERIT-PARENT, ROOT, UP-MIXED, USE-FORCED-ROLE, places}
-use Rattle.model.specs.Layout.{FILE-TYPE, FORCED, INITIAL, KIND, PARENT, roleAddr, rowLength}
+use Rattle.model.specs.Layout.{FILE-TYPE, FORCED, INITIAL, KEPT-WORDS, KIND, PARENT, roleAddr, rowLength}
 use Rattle.model.specs.Words.{_!_}
-use Rattle.model.specs.Records.{fileWord, occupied, freePlace, hasRight}
+use Rattle.model.specs.Records.{fileWord, keptAt, occupied, freePlace, hasRight}
 use Rattle.model.specs.WellFormed.{wellFormed}
 use Rattle.model.specs.Policy.{SamePolicy}
 use Rattle.model.specs.Outcome.{Outcome, outcome, granting, refusing}
 use Rattle.model.specs.Fresh.{fresh, buildFresh}
 use Rattle.model.specs.Effective.{effective, rootValue, valueAt}
-use Rattle.model.specs.Queries.{look, query}
+use Rattle.model.specs.Queries.{lookKind, lookType, query, queryKind, queryType}
 use Rattle.model.specs.Step.{act, step}
 use Rattle.model.specs.Claims.{check, typeIn}
 use Rattle.model.specs.Runs.{Event, administers, allowed, confined, deed, familyOver, founder, happens, harmless, after}
 use Rattle.promises.specs.Tests.{FirstFails, Hold, callTests, claimTests, queryTests, rules}
-use Rattle.promises.specs.Writes.{writes, placeTaken, Wrote}
+use Rattle.promises.specs.Writes.{movesKept, writes, placeTaken, Wrote}
 
 -- ---- one of nine numbers
 
@@ -109,7 +109,8 @@ A-refused-call-changes-nothing =
     → step t c call .answer .number ≢ 0
     → (step t c call .after ≡ t) × (step t c call .answer .place ≡ 0)
 
--- A granted call changes one record, or one word, and no other word of any table: what it writes then stands there, and all else is as before.
+-- A granted call changes one record, or one word, and no other word of any table: what it writes then stands there, and all else is as before, but
+-- for what is kept beside the files, of which the promises of kept values speak.
 abbrev pub A-granted-call-changes-one-record : Type 0
 A-granted-call-changes-one-record =
     (t : List ℕ) (c : ℕ) (call : Call) → step t c call .answer .number ≡ 0 → Wrote t (step t c call .after) (writes t c call)
@@ -164,9 +165,10 @@ No-run-from-well-formed-tables-meets-number-1 =
 abbrev pub On-well-formed-tables-act-is-step : Type 0
 On-well-formed-tables-act-is-step = (t : List ℕ) (c : ℕ) (call : Call) → wellFormed t ≡ true → act t c call ≡ step t c call
 
--- And a look comes to the value that a query answers.
+-- And a look, which climbs nothing, comes to the value that a query answers.
 abbrev pub On-well-formed-tables-look-is-the-querys-value : Type 0
-On-well-formed-tables-look-is-the-querys-value = (t : List ℕ) (slot o : ℕ) → wellFormed t ≡ true → look t slot o ≡ query t slot o .value
+On-well-formed-tables-look-is-the-querys-value =
+    (t : List ℕ) (o : ℕ) → wellFormed t ≡ true → (lookType t o ≡ queryType t o .value) × (lookKind t o ≡ queryKind t o .value)
 
 -- ---- effective values, in the paper's words
 
@@ -238,9 +240,13 @@ Asked-at-that-place-a-query-answers-the-same =
     → query t slot o .number ≡ 0
     → query t slot (query t slot o .place) ≡ record { number = 0; value = query t slot o .value; climbed = 0; place = query t slot o .place }
 
--- The value that a query answers is the one that calls and claims go by.
+-- The value that a query answers is the effective one, and of type, initial and forced value the one kept, which calls and claims go by.
 abbrev pub A-query-answers-the-effective-value : Type 0
-A-query-answers-the-effective-value = (t : List ℕ) (slot o : ℕ) → query t slot o .number ≡ 0 → query t slot o .value ≡ valueAt t slot o
+A-query-answers-the-effective-value =
+    (t : List ℕ) (slot o : ℕ)
+    → query t slot o .number ≡ 0
+    → (query t slot o .value ≡ valueAt t slot o)
+    × ((k : ℕ) → k < KEPT-WORDS → slot ≡ FILE-TYPE + k → query t slot o .value ≡ keptAt t k o)
 
 -- W-202: a query of the kind answers the file's own, which is FILE or DIR, and climbs nothing.
 abbrev pub A-query-of-the-kind-answers-FILE-or-DIR : Type 0
@@ -249,6 +255,36 @@ A-query-of-the-kind-answers-FILE-or-DIR =
     → query t KIND o .number ≡ 0
     → (query t KIND o ≡ record { number = 0; value = fileWord t o KIND; climbed = 0; place = o })
     × ((fileWord t o KIND ≡ FILE) ⊎ (fileWord t o KIND ≡ DIR))
+
+-- ---- what is kept of them beside the files (W-206)
+
+-- every value kept for a file place is the climb's
+abbrev pub KeepsTheClimb : List ℕ → Type 0
+KeepsTheClimb t = (k o : ℕ) → k < KEPT-WORDS → o < FILES → keptAt t k o ≡ valueAt t (FILE-TYPE + k) o
+
+-- On well-formed tables the values kept are the climb's.
+abbrev pub Well-formed-tables-keep-the-climb : Type 0
+Well-formed-tables-keep-the-climb = (t : List ℕ) → wellFormed t ≡ true → KeepsTheClimb t
+
+-- After every call they are again.
+abbrev pub After-every-call-the-climb-is-kept-again : Type 0
+After-every-call-the-climb-is-kept-again = (t : List ℕ) (c : ℕ) (call : Call) → wellFormed t ≡ true → KeepsTheClimb (step t c call .after)
+
+-- For a free place zeros are kept.
+abbrev pub For-a-free-place-zeros-are-kept : Type 0
+For-a-free-place-zeros-are-kept =
+    (t : List ℕ) (k o : ℕ) → wellFormed t ≡ true → k < KEPT-WORDS → o < FILES → occupied t FILESYSTEM o ≡ false → keptAt t k o ≡ 0
+
+-- A type or a program role that is set moves what is kept for those that inherit it, a creation or a removal what is kept for its place; nothing
+-- else that is kept moves, by any call.
+abbrev pub No-other-value-kept-moves : Type 0
+No-other-value-kept-moves =
+    (t : List ℕ) (c : ℕ) (call : Call) (j q : ℕ)
+    → step t c call .answer .number ≡ 0
+    → j < KEPT-WORDS
+    → q < FILES
+    → movesKept t call j q ≡ false
+    → keptAt (step t c call .after) j q ≡ keptAt t j q
 
 -- ---- there is one right answer
 

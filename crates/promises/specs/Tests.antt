@@ -12,11 +12,11 @@ use Rattle.sets.specs.Sets.{has}
 use Rattle.model.specs.declared.Call.{Call}
 use Rattle.model.specs.declared.Change.{Change}
 use Rattle.model.specs.Numbers.{ASSIGN, CHANGE-OWNER, CLONE, COMPATIBLE-ROLES, CREATE, DEEPEST, DELETE, DIR, EXECUTE, FILE, FILES, FILESYSTEM, IPC, IPCS, MODIFY-ATTRIBUTE, PROCESS, PROCESSES, TYPES, isFirst}
-use Rattle.model.specs.Layout.{DEPTH, FILE-TYPE, KIND, claimLength}
+use Rattle.model.specs.Layout.{DEPTH, KEPT-TYPE, KIND, claimLength}
 use Rattle.model.specs.Ranges.{ranged}
-use Rattle.model.specs.Records.{fileWord, freePlace, occupied, processAt, userRole}
+use Rattle.model.specs.Records.{fileWord, freePlace, keptAt, occupied, processAt, userRole}
 use Rattle.model.specs.WellFormed.{wellFormed}
-use Rattle.model.specs.Effective.{typeOf, valueAt}
+use Rattle.model.specs.KeptValues.{typeOf}
 use Rattle.model.specs.Calls.{may, ownRole, removable}
 use Rattle.model.specs.Administration.{assignedType, mayAdmin, mayAssign, passes, rightNeeded}
 use Rattle.model.specs.Claims.{C1, C2, C3, C4, C5, C6, C7, C8, C9, processIn, typeIn}
@@ -78,18 +78,18 @@ abbrev pub ownTests : List ℕ → ℕ → Call → List Test
 ownTests t c (Call.Access g o right) = 4 ifNot occupied t g o ∷ 5 ifNot may t c g (typeOf t g o) right ∷ []
 ownTests t c Call.Clone = 5 ifNot may t c PROCESS (processAt t c .rctype) CLONE ∷ 8 ifNot ltb (freePlace t PROCESS) PROCESSES ∷ []
 ownTests t c Call.Exit = 6 ifNot not (isFirst c) ∷ []
-ownTests t c (Call.Execute f) = 4 ifNot eqb (fileWord t f KIND) FILE ∷ 5 ifNot may t c FILESYSTEM (valueAt t FILE-TYPE f) EXECUTE ∷ []
+ownTests t c (Call.Execute f) = 4 ifNot eqb (fileWord t f KIND) FILE ∷ 5 ifNot may t c FILESYSTEM (keptAt t KEPT-TYPE f) EXECUTE ∷ []
 ownTests t c (Call.ChangeOwner u) = 5 ifNot may t c PROCESS (processAt t c .rctype) CHANGE-OWNER ∷ []
 ownTests t c (Call.ChangeRole r) = 5 ifNot has (ownRole t c .compatible .bits) r ∷ []
 ownTests t c (Call.Create kind y) =
     4 ifNot eqb (fileWord t y KIND) DIR
-    ∷ 5 ifNot may t c FILESYSTEM (valueAt t FILE-TYPE y) CREATE
+    ∷ 5 ifNot may t c FILESYSTEM (keptAt t KEPT-TYPE y) CREATE
     ∷ 7 ifNot ltb (fileWord t y DEPTH) DEEPEST
     ∷ 8 ifNot ltb (freePlace t FILESYSTEM) FILES
     ∷ []
 ownTests t c (Call.Delete o) =
     4 ifNot occupied t FILESYSTEM o
-    ∷ 5 ifNot may t c FILESYSTEM (valueAt t FILE-TYPE o) DELETE
+    ∷ 5 ifNot may t c FILESYSTEM (keptAt t KEPT-TYPE o) DELETE
     ∷ 6 ifNot removable t o
     ∷ []
 ownTests t c Call.CreateIpc = 5 ifNot may t c IPC (ownRole t c .ipccreate) CREATE ∷ 8 ifNot ltb (freePlace t IPC) IPCS ∷ []

@@ -1,10 +1,12 @@
--- What each granted call writes: one record, or one word, and nothing else (Promises); access writes nothing. And the place that it answers.
+-- What each granted call writes: one record, or one word, and nothing else (Promises); access writes nothing. Beside that, which of the values kept
+-- for files it may move (W-206). And the place that it answers.
 -- Assumes nothing.
-use Prim.Native.Nat.{_+_, ℕ, _<_, _≤_}
+use Prim.Native.Nat.{_+_, _*_, ℕ, zero, suc, _<_, _≤_}
 use mathlib.Core.List.{List, [], _∷_}
-use mathlib.Core.Bool.{true}
+use mathlib.Core.Bool.{Bool, false, true, _&&_, _||_}
 use mathlib.Core.Path.{_≡_}
 use mathlib.Core.Logic.{_⊎_}
+use lib.Dec.{eqb}
 use lib.ListN.{length}
 use Rattle.sets.specs.Sets.{added, removed}
 use Rattle.model.specs.declared.Call.{Call}
@@ -12,11 +14,10 @@ use Rattle.model.specs.declared.Change.{Change}
 use Rattle.model.specs.declared.File.{File}
 use Rattle.model.specs.declared.Ipc.{Ipc}
 use Rattle.model.specs.declared.Process.{Process}
-use Rattle.model.specs.Numbers.{FILESYSTEM, IPC, PROCESS}
-use Rattle.model.specs.Layout.{DEFAULTS, DEPTH, FORCED, INITIAL, MARK, PROCESS-FORCED, fileAddr, ipcAddr, processAddr, rightsAddr, roleAddr, userAddr}
+use Rattle.model.specs.Numbers.{FILES, FILESYSTEM, INHERIT-PARENT, IPC, PROCESS}
+use Rattle.model.specs.Layout.{DEFAULTS, DEPTH, FILE-TYPE, FORCED, INITIAL, KEPT-AT, KEPT-FORCED, KEPT-INITIAL, KEPT-TYPE, KEPT-WORDS, MARK, PARENT, PROCESS-FORCED, fileAddr, ipcAddr, processAddr, rightsAddr, roleAddr, userAddr}
 use Rattle.model.specs.Words.{_!_, block}
-use Rattle.model.specs.Records.{fileWord, fileWords, forcedOf, freeFile, freeIpc, freePlace, freeProcess, initialOf, ipcWords, kindOf, processAt, processWords, roleAt, userRole}
-use Rattle.model.specs.Effective.{valueAt}
+use Rattle.model.specs.Records.{fileWord, fileWords, forcedOf, freeFile, freeIpc, freePlace, freeProcess, initialOf, ipcWords, keptAt, kindOf, processAt, processWords, roleAt, userRole}
 use Rattle.model.specs.Transitions.{cloned, executed, chowned, withRole, created}
 use Rattle.model.specs.Calls.{ownRole, roleUnder}
 use Rattle.model.specs.Administration.{typeAddr}
@@ -26,11 +27,15 @@ pub record Write : Type 0 where
   pub at : ℕ
   pub words : List ℕ
 
--- row u is row t with those words there, and every other word as it was
+-- address b is outside the n words at a
+abbrev Outside : ℕ → ℕ → ℕ → Type 0
+Outside b a n = (b < a) ⊎ (a + n ≤ b)
+
+-- row u is row t with those words there, and every other word of every table as it was, but for what is kept beside the files
 pub record Wrote (t u : List ℕ) (x : Write) : Type 0 where
   pub sized : length u ≡ length t
   pub there : block u (x .at) (length (x .words)) ≡ x .words
-  pub others : (b : ℕ) → (b < x .at) ⊎ (x .at + length (x .words) ≤ b) → u ! b ≡ t ! b
+  pub others : (b : ℕ) → Outside b (x .at) (length (x .words)) → Outside b KEPT-AT (FILES * KEPT-WORDS) → u ! b ≡ t ! b
 
 -- ---- call by call
 
@@ -76,7 +81,7 @@ writes t c Call.Clone = processRecord (freePlace t PROCESS) (cloned (ownRole t c
 writes t c Call.Exit = processRecord c freeProcess
 writes t c (Call.Execute f) =
     processRecord c
-    (executed (ownRole t c) (userRole t (processAt t c .owner)) (initialOf (valueAt t INITIAL f)) (forcedOf (valueAt t FORCED f)) (processAt t c))
+    (executed (ownRole t c) (userRole t (processAt t c .owner)) (initialOf (keptAt t KEPT-INITIAL f)) (forcedOf (keptAt t KEPT-FORCED f)) (processAt t c))
 writes t c (Call.ChangeOwner u) =
     processRecord c (chowned (ownRole t c) u (roleUnder t c u) (roleAt t (roleUnder t c u) .processcreate) (processAt t c))
 writes t c (Call.ChangeRole r) = processRecord c (withRole r (processAt t c))
@@ -86,6 +91,44 @@ writes t c (Call.Delete o) = fileRecord o freeFile
 writes t c Call.CreateIpc = ipcRecord (freePlace t IPC) (record { live = true; rctype = ownRole t c .ipccreate })
 writes t c (Call.DeleteIpc i) = ipcRecord i freeIpc
 writes t c (Call.Administer change) = changeWrites t change
+
+-- ---- which of the values kept beside the files a granted call may move
+
+-- from file q, which has d parents, the climb for the word `slot` passes file o, or begins or ends there
+abbrev pub climbsPast : ℕ → List ℕ → ℕ → ℕ → ℕ → Bool
+climbsPast zero t slot o q = eqb q o
+climbsPast (suc d) t slot o q = eqb q o || (eqb (fileWord t q slot) INHERIT-PARENT && climbsPast d t slot o (fileWord t q PARENT))
+
+-- value k of file o was set: that of o itself, and of every file that inherits it, through files that inherit it too
+abbrev inheritsFrom : List ℕ → ℕ → ℕ → ℕ → ℕ → Bool
+inheritsFrom t k o j q = eqb j k && climbsPast (fileWord t q DEPTH) t (FILE-TYPE + k) o q
+
+abbrev pub changeMoves : List ℕ → Change → ℕ → ℕ → Bool
+changeMoves t (Change.AddRole s r member) j q = false
+changeMoves t (Change.RemoveRole s r member) j q = false
+changeMoves t (Change.SetUserRole u r) j q = false
+changeMoves t (Change.SetInitial f v) j q = inheritsFrom t KEPT-INITIAL f j q
+changeMoves t (Change.SetForced f v) j q = inheritsFrom t KEPT-FORCED f j q
+changeMoves t (Change.SetProcessForced p v) j q = false
+changeMoves t (Change.SetDefaultType which r v) j q = false
+changeMoves t (Change.SetRoleAdmin r mark) j q = false
+changeMoves t (Change.SetType g o v) j q = eqb g FILESYSTEM && inheritsFrom t KEPT-TYPE o j q
+changeMoves t (Change.AddRight g r k right) j q = false
+changeMoves t (Change.RemoveRight g r k right) j q = false
+
+-- value j kept for file q: a creation or a removal may move that of its place, and a value that is set that of what inherits it
+abbrev pub movesKept : List ℕ → Call → ℕ → ℕ → Bool
+movesKept t (Call.Access g o right) j q = false
+movesKept t Call.Clone j q = false
+movesKept t Call.Exit j q = false
+movesKept t (Call.Execute f) j q = false
+movesKept t (Call.ChangeOwner u) j q = false
+movesKept t (Call.ChangeRole r) j q = false
+movesKept t (Call.Create kind y) j q = eqb q (freePlace t FILESYSTEM)
+movesKept t (Call.Delete o) j q = eqb q o
+movesKept t Call.CreateIpc j q = false
+movesKept t (Call.DeleteIpc i) j q = false
+movesKept t (Call.Administer change) j q = changeMoves t change j q
 
 -- the place that a granted call takes, in the table of the group that it creates in
 abbrev pub placeTaken : List ℕ → Call → ℕ

@@ -1,17 +1,19 @@
 // The queries of a file: its effective values (rules 5, 17, 19) and its kind. They need no caller and no right, and refuse only with 1, 2 or 4.
 use effective::effective;
-use effective::values::value_at;
 use formed::well_formed;
 use model::Found;
 use model::layout::FILE_TYPE;
 use model::layout::FORCED;
 use model::layout::INITIAL;
+use model::layout::KEPT_TYPE;
 use model::layout::KIND;
 use model::numbers::FILES;
 use model::numbers::FILESYSTEM;
 use rules::refusal::first;
 use rules::refusal::unless;
 use tables::places::occupied;
+use tables::records::file_word;
+use tables::records::kept_at;
 ghost use mathlib.Core.Path.{_≡_};
 ghost use Rattle.model.specs.Effective.{effective as effectiveOf};
 ghost use Rattle.model.specs.Queries.{lookNo, look as lookOf, lookType, lookKind, foundBy, query as queryOf, queryType, queryInitial, queryForced, queryKind};
@@ -44,15 +46,11 @@ fn found(t: &[u32], number: u32, slot: u32, o: u32) -> Found
     }
 }
 
-// The value that a query of the word `slot` answers, on tables that are known to be well formed; 0 with a refusal.
-fn look(t: &[u32], slot: u32, o: u32) -> u32
-    ensures { λ r. ⌜ r ≡ lookOf (now (t .entry)) slot o ⌝ }
+// What a query answers on tables that are known to be well formed, where v is the value there; 0 with a refusal.
+fn look(t: &[u32], o: u32, v: u32) -> u32
+    ensures { λ r. ⌜ r ≡ lookOf (now (t .entry)) o v ⌝ }
 {
-    if look_no(t, o) == 0 {
-        value_at(t, slot, o)
-    } else {
-        0
-    }
+    if look_no(t, o) == 0 { v } else { 0 }
 }
 
 // The query of the word `slot` of any row.
@@ -95,12 +93,12 @@ pub fn query_kind(t: &[u32], o: u32) -> Found
 pub fn look_type(t: &[u32], o: u32) -> u32
     ensures { λ r. ⌜ r ≡ lookType (now (t .entry)) o ⌝ }
 {
-    look(t, FILE_TYPE, o)
+    look(t, o, kept_at(t, KEPT_TYPE, o))
 }
 
 // The kind, for those who have found the tables well formed.
 pub fn look_kind(t: &[u32], o: u32) -> u32
     ensures { λ r. ⌜ r ≡ lookKind (now (t .entry)) o ⌝ }
 {
-    look(t, KIND, o)
+    look(t, o, file_word(t, o, KIND))
 }

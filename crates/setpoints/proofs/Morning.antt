@@ -40,6 +40,6 @@ a-confined-family-enters-nothing-in-a-protected-list t w run s entries accepted 
     (λ g.
     let u = after t run in
     let answered = a-query-is-answered-exactly-when-its-tests-hold u _ (s .list) .0 .1 (list-answered u s (g .united)) in
-    let its-type = sym (a-query-answers-the-effective-value u _ (s .list) answered) ∙ protected in
+    let its-type = sym (a-query-answers-the-effective-value u _ (s .list) answered .0) ∙ protected in
     let harmless = whatever-has-happened-a-member-does-no-harm t w run (s .process) (Call.Access FILESYSTEM (s .list) WRITE) accepted allowed member in
     true≢false (sym (rw (g .written, eq-eqb _ (typeIn w) its-type) at harmless)))

@@ -39,8 +39,8 @@ module _ (t : List ℕ) (s : Setpoint) where
   looked : wellFormed t ≡ true → looksOfUnit ≡ ofUnit t s
   unfolding ofUnit
   looked e =
-      let kind : lookKind t (s .list) ≡ queryKind t (s .list) .value = on-well-formed-tables-look-is-the-querys-value t _ (s .list) e in
-      let rctype : lookType t (s .list) ≡ queryType t (s .list) .value = on-well-formed-tables-look-is-the-querys-value t _ (s .list) e in
+      let kind : lookKind t (s .list) ≡ queryKind t (s .list) .value = on-well-formed-tables-look-is-the-querys-value t (s .list) e .1 in
+      let rctype : lookType t (s .list) ≡ queryType t (s .list) .value = on-well-formed-tables-look-is-the-querys-value t (s .list) e .0 in
       rw (kind, rctype)
 
   -- what the monitor's function answered is what the definition asks

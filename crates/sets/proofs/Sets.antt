@@ -360,6 +360,11 @@ pub joined-fits : (s u : ℕ) → joined s u < 2 ^ 32
 unfolding joined
 joined-fits s u = collect-fits (λ i. has s i || has u i) 32
 
+-- an empty set adds nothing
+pub joined-none : (s : ℕ) → s < 2 ^ 32 → joined s 0 ≡ s
+unfolding joined
+joined-none s h = sym (is-collect s (λ i. has s i || has 0 i) h (λ i l. rw (empty-has i, or-false)))
+
 -- the machine's union
 pub joined-word : (s u : ℕ) → s < 2 ^ 32 → u < 2 ^ 32 → bitOr s u ≡ joined s u
 unfolding joined

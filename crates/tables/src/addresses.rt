@@ -4,6 +4,8 @@ use model::layout::FILES_AT;
 use model::layout::GROUP_RIGHTS;
 use model::layout::IPC_WORDS;
 use model::layout::IPCS_AT;
+use model::layout::KEPT_AT;
+use model::layout::KEPT_WORDS;
 use model::layout::PROCESS_WORDS;
 use model::layout::PROCESSES_AT;
 use model::layout::RIGHTS_AT;
@@ -12,7 +14,7 @@ use model::layout::ROLES_AT;
 use model::layout::USERS_AT;
 use model::numbers::TYPES;
 ghost use mathlib.Core.Path.{_≡_};
-ghost use Rattle.model.specs.Layout.{processAddr, userAddr, roleAddr, ipcAddr, fileAddr, rightsAddr};
+ghost use Rattle.model.specs.Layout.{processAddr, userAddr, roleAddr, ipcAddr, fileAddr, keptAddr, rightsAddr};
 
 // Live, owner, role, type, forced.
 pub fn process_addr(p: u32) -> usize
@@ -47,6 +49,13 @@ pub fn file_addr(o: u32) -> usize
     ensures { λ r. ⌜ r ≡ fileAddr o ⌝ }
 {
     FILES_AT + (o as usize) * FILE_WORDS
+}
+
+// What is kept beside a file: its effective type, initial and forced value.
+pub fn kept_addr(o: u32) -> usize
+    ensures { λ r. ⌜ r ≡ keptAddr o ⌝ }
+{
+    KEPT_AT + (o as usize) * KEPT_WORDS
 }
 
 // A role's set of rights to a type of a group.

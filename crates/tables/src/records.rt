@@ -1,6 +1,7 @@
 // The records of the tables, by value: each is loaded from its words, and is the words that it is kept in.
 use crate::addresses::file_addr;
 use crate::addresses::ipc_addr;
+use crate::addresses::kept_addr;
 use crate::addresses::process_addr;
 use crate::addresses::rights_addr;
 use crate::addresses::role_addr;
@@ -16,6 +17,7 @@ use model::Ipc;
 use model::Process;
 use model::Role;
 use model::layout::DEFAULTS;
+use model::layout::FILE_TYPE;
 use model::layout::FILE_WORDS;
 use model::layout::IPC_LIVE;
 use model::layout::IPC_TYPE;
@@ -36,10 +38,11 @@ use model::numbers::PROCESS_CHOWN;
 use model::numbers::PROCESS_CREATE;
 use model::numbers::PROCESS_EXECUTE;
 ghost use mathlib.Core.Path.{_≡_};
+ghost use Prim.Native.Nat.{_+_};
 ghost use Rattle.model.specs.Numbers.{TYPES};
 ghost use Rattle.model.specs.Words.{block};
-ghost use Rattle.model.specs.Layout.{rightsAddr};
-ghost use Rattle.model.specs.Records.{processAt, processWords, fileWords, fileWord, ipcAt, ipcWords, roleAt, userRole, hasRight};
+ghost use Rattle.model.specs.Layout.{FILE-TYPE, rightsAddr};
+ghost use Rattle.model.specs.Records.{processAt, processWords, fileWords, fileWord, keptAt, ipcAt, ipcWords, roleAt, userRole, hasRight};
 
 // The process at place p.
 pub fn process_at(t: &[u32], p: u32) -> Process
@@ -86,6 +89,20 @@ pub fn file_word(t: &[u32], o: u32, slot: u32) -> u32
     ensures { λ r. ⌜ r ≡ fileWord (now (t .entry)) o slot ⌝ }
 {
     word(t, file_addr(o) + (slot as usize))
+}
+
+// A file's own value k: its type, initial or forced value.
+pub fn own_value(t: &[u32], k: u32, o: u32) -> u32
+    ensures { λ r. ⌜ r ≡ fileWord (now (t .entry)) o (FILE-TYPE + k) ⌝ }
+{
+    word(t, file_addr(o) + ((FILE_TYPE as usize) + (k as usize)))
+}
+
+// Value k kept beside a file: its effective type, initial or forced value.
+pub fn kept_at(t: &[u32], k: u32, o: u32) -> u32
+    ensures { λ r. ⌜ r ≡ keptAt (now (t .entry)) k o ⌝ }
+{
+    word(t, kept_addr(o) + (k as usize))
 }
 
 // The IPC object at place i.
@@ -139,16 +156,26 @@ pub fn has_right(t: &[u32], group: u32, role: u32, rctype: u32, right: u32) -> b
     set_at(t, rights_addr(group, role, rctype)).has(right)
 }
 
+// The first 32 words of a slice, zeros past its end. In a slice of their own the compiler sees that they lie side by side.
+fn leading(part: &[u32]) -> [u32; 32]
+    ensures { λ r. ⌜ r ≡ block (now (part .entry)) 0 TYPES ⌝ }
+{
+    let mut row = [0u32; 32];
+    let mut k = 0;
+    while (k < 32) & (k < part.len()) {
+        row[k] = part[k];
+        k += 1;
+    }
+    row
+}
+
 // A role's row of sets of rights, one for each type of a group.
 pub fn rights_row(t: &[u32], group: u32, role: u32) -> [u32; 32]
     ensures { λ r. ⌜ r ≡ block (now (t .entry)) (rightsAddr group role 0) TYPES ⌝ }
 {
     let a = rights_addr(group, role, 0);
-    let mut row = [0u32; 32];
-    let mut k = 0;
-    while k < row.len() {
-        row[k] = word(t, a + k);
-        k += 1;
+    if a < t.len() {
+        return leading(&t[a..]);
     }
-    row
+    [0u32; 32]
 }

@@ -1,9 +1,11 @@
 // What the scope document asks to be run: the marked examples, every table filled to its last place, and each number once; and what change requests
-// brought, where effective values come from, what enters setpoint lists, how many members a role set has, who moves users, and a night at once.
+// brought, where effective values come from, what enters setpoint lists, how many members a role set has, who moves users, a night at once, and what is
+// kept beside the files.
 // A line tells a trial and what it came to; every group of trials begins with fresh tables.
 use model::layout::ROW_LENGTH;
 
 mod administrator;
+mod beside;
 mod claim;
 mod full;
 mod lists;
@@ -24,6 +26,7 @@ fn main() {
     sizes::run(&mut t);
     users::run(&mut t);
     night::run(&mut t);
+    beside::run(&mut t);
     full::run(&mut t);
     numbers::run(&mut t);
     claim::numbers(&mut t);

@@ -5,19 +5,11 @@ use Prim.Native.Nat.{ℕ, _≤_, _<_, _-_}
 use mathlib.Core.Path.{_≡_, refl, sym, _∙_}
 use mathlib.Core.Bool.{Bool, true, false, not, _&&_, and-false}
 use native.Mathlib.Omega.{arith}
-use borrow.Author.Tests.{ltb-true, ltb-false}
 use borrow.Author.Needs.{needs}
-use lib.Dec.{ltb}
 use Rattle.sets.specs.Below.{allBelow}
-use Rattle.sets.proofs.Below.{left, right, all-next}
+use Rattle.sets.proofs.Below.{left, all-next, walks-below, walked-past}
 use Rattle.claimroles.specs.Roles.{assignsTo, keeps}
 use Rattle.claimroles.proofs.Roles.{assigns-none, assigns-rows, assigned, keeps-is, c2-keeps, c2-broken, kept, lost}
-
-below : {n : ℕ} (mine : Bool) (k : ℕ) → (mine && ltb k n) ≡ true → k < n
-below {n} mine k e = ltb-true k n (right mine (ltb k n) e)
-
-past : {n : ℕ} (mine : Bool) (k : ℕ) → (mine && ltb k n) ≡ false → mine ≡ true → n ≤ k
-past {n} mine k e m = ltb-false k n (rw m at e)
 
 abbrev Inv-loop : tie.InvT-loop
 Inv-loop t w s broken₀ r mine files processes ipcs k₀ broken k = (broken ≡ 0) × (allBelow k (λ k. not (assignsTo t r k)) ≡ true) × (k ≤ 32)
@@ -64,19 +56,19 @@ mul-assigns : tie.Need-mul-assigns Inv-loop μ-loop Inv-walk μ-walk
 mul-assigns c = search needs
 
 array-read-assigns : tie.Need-array-read-assigns Inv-loop μ-loop Inv-walk μ-walk
-array-read-assigns c = omega (arith, below (c .before .before .before .before .before .before .before .before .has .result) (c .before .loop .k) (c .loop-test .taken))
+array-read-assigns c = omega (arith, walks-below (c .before .before .before .before .before .before .before .before .has .result) (c .before .loop .k) 32 (c .loop-test .taken))
 
 mul-assigns-2 : tie.Need-mul-assigns-2 Inv-loop μ-loop Inv-walk μ-walk
 mul-assigns-2 c = search needs
 
 array-read-assigns-2 : tie.Need-array-read-assigns-2 Inv-loop μ-loop Inv-walk μ-walk
-array-read-assigns-2 c = omega (arith, below (c .before .before .before .before .before .before .before .before .has .result) (c .before .loop .k) (c .loop-test .taken))
+array-read-assigns-2 c = omega (arith, walks-below (c .before .before .before .before .before .before .before .before .has .result) (c .before .loop .k) 32 (c .loop-test .taken))
 
 mul-assigns-3 : tie.Need-mul-assigns-3 Inv-loop μ-loop Inv-walk μ-walk
 mul-assigns-3 c = search needs
 
 array-read-assigns-3 : tie.Need-array-read-assigns-3 Inv-loop μ-loop Inv-walk μ-walk
-array-read-assigns-3 c = omega (arith, below (c .before .before .before .before .before .before .before .before .has .result) (c .before .loop .k) (c .loop-test .taken))
+array-read-assigns-3 c = omega (arith, walks-below (c .before .before .before .before .before .before .before .before .has .result) (c .before .loop .k) 32 (c .loop-test .taken))
 
 assigns-requires : tie.Need-assigns-requires Inv-loop μ-loop Inv-walk μ-walk
 assigns-requires c κs = search needs
@@ -84,19 +76,19 @@ assigns-requires c κs = search needs
 add-k : tie.Need-add-k Inv-loop μ-loop Inv-walk μ-walk
 add-k c =
     let n = c .before .before in
-    omega (arith, below (n .before .before .before .before .before .before .before .before .has .result) (n .before .loop .k) (n .loop-test .taken))
+    omega (arith, walks-below (n .before .before .before .before .before .before .before .before .has .result) (n .before .loop .k) 32 (n .loop-test .taken))
 
 loop-less : tie.Need-loop-less Inv-loop μ-loop Inv-walk μ-walk
 loop-less c =
     let n = c .before .before in
-    omega (arith, below (n .before .before .before .before .before .before .before .before .has .result) (n .before .loop .k) (n .loop-test .taken))
+    omega (arith, walks-below (n .before .before .before .before .before .before .before .before .has .result) (n .before .loop .k) 32 (n .loop-test .taken))
 
 loop-again : tie.Need-loop-again Inv-loop μ-loop Inv-walk μ-walk
 loop-again c =
     let n = c .before .before in
     let i = n .before .loop in
     let x = n .before .before in
-    let l : i .k < 32 = omega (arith, below (x .before .before .before .before .before .before .has .result) (i .k) (n .loop-test .taken)) in
+    let l : i .k < 32 = omega (arith, walks-below (x .before .before .before .before .before .before .has .result) (i .k) 32 (n .loop-test .taken)) in
     let a = assigns-rows _ _ (i .k) _ _ _ l (x .before .before .rights-row .ensures) (x .before .rights-row2 .ensures) (x .rights-row3 .ensures) in (
       i .inv .0,
       rw (all-next, i .inv .1, ← a, ← c .before .assigns .ensures, c .if2 .left),
@@ -127,7 +119,7 @@ walk-again c =
       )
           (kept (h .has .result) (p .unempowered .result) _ (q .if1 .left)
           (λ m.
-          let l = past (h .has .result) (i .k) (c .loop-test .left) m in
+          let l = walked-past (h .has .result) (i .k) 32 (c .loop-test .left) m in
           let e : i .k ≡ 32 = omega arith in
           assigns-none _ _ ∙ rw e at (i .inv .1))),
       search needs,
@@ -154,7 +146,7 @@ returns-3 c =
     let x = n .before .before in
     let h = x .before .before .before .before .before .before in
     let s = rw (h .before .before .before .roles-in .ensures) at (h .has .ensures) in
-    let l : i .k < 32 = omega (arith, below (h .has .result) (i .k) (n .loop-test .taken)) in
+    let l : i .k < 32 = omega (arith, walks-below (h .has .result) (i .k) 32 (n .loop-test .taken)) in
     let m = left (h .has .result) _ (n .loop-test .taken) in
     let a = assigns-rows _ _ (i .k) _ _ _ l (x .before .before .rights-row .ensures) (x .before .rights-row2 .ensures) (x .rights-row3 .ensures) in
     let y = assigned _ _ (i .k) l (sym a ∙ sym (c .before .assigns .ensures) ∙ c .if2 .taken) in

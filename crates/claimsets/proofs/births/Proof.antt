@@ -7,9 +7,8 @@ use mathlib.Core.Logic.{⊎-elim}
 use native.Mathlib.Omega.{arith}
 use borrow.Author.Needs.{needs}
 use Rattle.sets.specs.Sets.{union}
-use Rattle.sets.proofs.Sets.{union-next}
 use Rattle.claimsets.specs.Family.{bears, born, rowOf}
-use Rattle.claimsets.proofs.Family.{row-at, row-length, row-same, no-births}
+use Rattle.claimsets.proofs.Family.{row-length, none-added, one-added, none-more}
 
 abbrev Inv-loop : tie.InvT-loop
 Inv-loop t roles row₀ r₀ row r = (row ≡ rowOf (λ k. union r (roles .bits) (bears t k))) × (r ≤ 32)
@@ -19,7 +18,7 @@ abbrev μ-loop : tie.MeasureT-loop
 
 loop-holds : tie.Need-loop-holds Inv-loop μ-loop
 unfolding rowOf
-loop-holds c = let a = c .before .args in (no-births (a .t .now) (a .roles .bits), search needs)
+loop-holds c = let a = c .before .args in (none-added (a .roles .bits) (bears (a .t .now)), search needs)
 
 has-requires : tie.Need-has-requires Inv-loop μ-loop
 has-requires c κs = search needs
@@ -41,8 +40,8 @@ loop-again c =
     let h = sym (c .before .has .ensures) in
     let i = c .before .before .before .loop .inv in
     ⊎-elim
-    (λ x. (rw (x .4, x .2 .ensures, i .0) (row-same _ _ (λ k l. rw (row-at _ k l, union-next, h ∙ x .0 .taken))), search needs))
-    (λ x. (rw (x .1, i .0) (row-same _ _ (λ k l. rw (union-next, h ∙ x .0 .left))), search needs))
+    (λ x. (rw (x .4, x .2 .ensures, i .0) (one-added _ _ _ (h ∙ x .0 .taken)), search needs))
+    (λ x. (rw (x .1, i .0) (none-more _ _ _ (h ∙ x .0 .left)), search needs))
     (c .if1 .came)
 
 returns : tie.Need-returns Inv-loop μ-loop

@@ -1,4 +1,5 @@
--- The invariant: the set so far has the types below k to which a role has the right.
+-- The invariant: the set so far has the types below k to which a role has the right, as the row of rights tells.
+-- Assumes nothing.
 use Prim.Native.Nat.{_≤_, _-_}
 use mathlib.Core.Path.{_≡_, refl, sym, _∙_}
 use mathlib.Core.Logic.{⊎-elim}
@@ -6,23 +7,34 @@ use native.Mathlib.Numerals.{add-one}
 use native.Mathlib.Omega.{arith}
 use borrow.Author.Needs.{needs}
 use Rattle.sets.specs.Sets.{has, collect}
-use Rattle.claimsets.specs.Family.{rightsTo, reach}
+use Rattle.sets.proofs.Sets.{collect-same}
+use Rattle.model.specs.Words.{_!_}
+use Rattle.claimsets.specs.Family.{reach}
+use Rattle.claimsets.proofs.Family.{row-at}
 use Rattle.claimsets.proofs.reach.Statement.{statement}
 use Rattle.claimsets.proofs.reach.Tie as tie
 
 abbrev Inv-loop : tie.InvT-loop
-Inv-loop t roles group right types₀ k₀ types k =
-    (types .bits ≡ collect k (λ k. has (rightsTo t (roles .bits) group k) right)) × (k ≤ 32)
+Inv-loop t group right row types₀ k₀ types k = (types .bits ≡ collect k (λ k. has (row ! k) right)) × (k ≤ 32)
 
 abbrev μ-loop : tie.MeasureT-loop
-μ-loop t roles group right types₀ k₀ types k = 32 - k
+μ-loop t group right row types₀ k₀ types k = 32 - k
+
+rights-of-requires : tie.Need-rights-of-requires Inv-loop μ-loop
+rights-of-requires c κs = search needs
 
 loop-holds : tie.Need-loop-holds Inv-loop μ-loop
 unfolding collect
 loop-holds c = (refl, search needs)
 
-rights-to-requires : tie.Need-rights-to-requires Inv-loop μ-loop
-rights-to-requires c κs = search needs
+cast-t11 : tie.Need-cast-t11 Inv-loop μ-loop
+cast-t11 c = search needs
+
+mul-t12 : tie.Need-mul-t12 Inv-loop μ-loop
+mul-t12 c = search needs
+
+array-read-t15 : tie.Need-array-read-t15 Inv-loop μ-loop
+array-read-t15 c = search needs
 
 has-requires : tie.Need-has-requires Inv-loop μ-loop
 has-requires c κs = search needs
@@ -39,16 +51,16 @@ loop-less c = search needs
 loop-again : tie.Need-loop-again Inv-loop μ-loop
 unfolding collect
 loop-again c =
-    let x = c .before .before .rights-to .ensures in
     let h = sym (c .before .has .ensures) in
-    ⊎-elim (λ w. (rw (add-one, ← x, h ∙ w .0 .taken) (cc), search needs)) (λ w. (rw (add-one, ← x, h ∙ w .0 .left) (cc), search needs))
+    ⊎-elim (λ w. (rw (add-one, h ∙ w .0 .taken) (cc), search needs)) (λ w. (rw (add-one, h ∙ w .0 .left) (cc), search needs))
     (c .if1 .came)
 
 returns : tie.Need-returns Inv-loop μ-loop
 unfolding reach
 returns c =
     let e : c .before .loop .k ≡ 32 = omega arith in
-    rw e at (c .before .loop .inv .0)
+    rw (e, c .before .before .rights-of .ensures) at (c .before .loop .inv .0)
+    ∙ collect-same _ _ (λ k l. rw (row-at _ k l))
 
 pub reach-spec : {M : Type 1} → statement M
 reach-spec =
@@ -56,8 +68,11 @@ reach-spec =
     (tie.spec
     Inv-loop
     μ-loop
+    rights-of-requires
     loop-holds
-    rights-to-requires
+    cast-t11
+    mul-t12
+    array-read-t15
     has-requires
     add-requires
     add-k

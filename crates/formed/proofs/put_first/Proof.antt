@@ -1,10 +1,10 @@
--- The two records, one after the other.
+-- The two records and what is kept for the root, one after the other.
 -- Assumes nothing.
-use mathlib.Core.Path.{_∙_}
-use Rattle.model.specs.Records.{putProcess, putFile}
 use borrow.Author.Needs.{needs}
 use Rattle.formed.proofs.put_first.Statement.{statement}
 use Rattle.formed.proofs.put_first.Tie as tie
+use mathlib.Core.Path.{_∙_}
+use Rattle.model.specs.Records.{putProcess, putFile}
 
 first-process-requires : tie.Need-first-process-requires
 first-process-requires c κs = search needs
@@ -36,12 +36,28 @@ slice-aggregate-put-words-2 c = search needs
 put-words-requires-2 : tie.Need-put-words-requires-2
 put-words-requires-2 c κs = search needs
 
+kept-addr-requires : tie.Need-kept-addr-requires
+kept-addr-requires c κs = search needs
+
+slice-aggregate-put-words-3 : tie.Need-slice-aggregate-put-words-3
+slice-aggregate-put-words-3 c = search needs
+
+put-words-requires-3 : tie.Need-put-words-requires-3
+put-words-requires-3 c κs = search needs
+
 same-length : tie.Need-same-length
 same-length c = search needs
 
 returns : tie.Need-returns
 unfolding putFile putProcess
-returns c = c .before .before .put-words2 .ensures ∙ simp (c .before .before .before .before .file-addr .ensures, c .before .before .before .before .before .before .file-words .ensures, c .before .before .before .before .before .before .before .root-dir .ensures, c .before .before .before .before .before .before .before .before .before .before .put-words .ensures, c .before .before .before .before .before .before .before .before .before .before .before .before .process-addr .ensures, c .before .before .before .before .before .before .before .before .before .before .before .before .before .before .process-words .ensures, c .before .before .before .before .before .before .before .before .before .before .before .before .before .before .before .first-process .ensures)
+returns c =
+    let third = c .before .before in
+    let second = third .before .before .before .before .before .before in
+    let file = second .before .before .before .before in
+    let first = file .before .before .before .before in
+    let process = first .before .before .before .before in
+    third .put-words3 .ensures
+    ∙ simp (third .before .before .kept-addr .ensures, second .put-words2 .ensures, second .before .before .file-addr .ensures, file .file-words .ensures, file .before .root-dir .ensures, first .put-words .ensures, first .before .before .process-addr .ensures, process .process-words .ensures, process .before .first-process .ensures)
 
 pub put-first-spec : {M : Type 1} → statement M
 put-first-spec =
@@ -57,5 +73,8 @@ put-first-spec =
     file-addr-requires
     slice-aggregate-put-words-2
     put-words-requires-2
+    kept-addr-requires
+    slice-aggregate-put-words-3
+    put-words-requires-3
     same-length
     returns)

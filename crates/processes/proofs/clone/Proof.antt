@@ -1,28 +1,19 @@
 -- The tests in their order, and the child of rules 2 and 8 at the lowest free place.
 -- Assumes nothing.
-use borrow.Author.Needs.{needs}
-use Rattle.processes.proofs.clone.Statement.{statement}
-use Rattle.processes.proofs.clone.Tie as tie
 use mathlib.Core.Path.{_∙_}
 use Rattle.model.specs.Records.{putProcess}
 use Rattle.model.specs.Calls.{cloneNo, cloneRow}
 use Rattle.model.specs.Step.{ruling}
 use Rattle.model.proofs.Decided.{decides}
+use borrow.Author.Needs.{needs}
+use Rattle.processes.proofs.clone.Statement.{statement}
+use Rattle.processes.proofs.clone.Tie as tie
 
 free-place-requires : tie.Need-free-place-requires
 free-place-requires c κs = search needs
 
-may-self-requires : tie.Need-may-self-requires
-may-self-requires c κs = search needs
-
-unless-requires : tie.Need-unless-requires
-unless-requires c κs = search needs
-
-unless-requires-2 : tie.Need-unless-requires-2
-unless-requires-2 c κs = search needs
-
-first-requires : tie.Need-first-requires
-first-requires c κs = search needs
+clone-no-requires : tie.Need-clone-no-requires
+clone-no-requires c κs = search needs
 
 own-role-requires : tie.Need-own-role-requires
 own-role-requires c κs = search needs
@@ -57,13 +48,10 @@ returns c =
     let cloned = process-words .before in
     let process-at = cloned .before in
     let own-role = process-at .before .before in
-    let first = own-role .before .before in
-    let unless2 = first .before in
-    let unless = unless2 .before in
-    let may-self = unless .before in
-    let free-place = may-self .before .before in
+    let clone-no = own-role .before .before in
+    let free-place = clone-no .before .before in
     decide-words .decide-words .ensures
-    ∙ decides _ _ _ _ _ _ _ (simp (first .first .ensures, unless2 .unless2 .ensures, unless .unless .ensures, may-self .may-self .ensures, free-place .free-place .ensures)) (free-place .free-place .ensures)
+    ∙ decides _ _ _ _ _ _ _ (simp (clone-no .clone-no .ensures, free-place .free-place .ensures)) (free-place .free-place .ensures)
     (simp (process-addr .process-addr .ensures, process-words .process-words .ensures, cloned .cloned .ensures, process-at .process-at .ensures, own-role .own-role .ensures, free-place .free-place .ensures))
 
 pub clone-spec : {M : Type 1} → statement M
@@ -71,10 +59,7 @@ clone-spec =
     tie.close
     (tie.spec
     free-place-requires
-    may-self-requires
-    unless-requires
-    unless-requires-2
-    first-requires
+    clone-no-requires
     own-role-requires
     process-at-requires
     cloned-requires

@@ -15,14 +15,14 @@ execute-no-requires c κs = search needs
 process-at-requires : tie.Need-process-at-requires
 process-at-requires c κs = search needs
 
-value-at-requires : tie.Need-value-at-requires
-value-at-requires c κs = search needs
+kept-at-requires : tie.Need-kept-at-requires
+kept-at-requires c κs = search needs
 
 initial-of-requires : tie.Need-initial-of-requires
 initial-of-requires c κs = search needs
 
-value-at-requires-2 : tie.Need-value-at-requires-2
-value-at-requires-2 c κs = search needs
+kept-at-requires-2 : tie.Need-kept-at-requires-2
+kept-at-requires-2 c κs = search needs
 
 forced-of-requires : tie.Need-forced-of-requires
 forced-of-requires c κs = search needs
@@ -61,14 +61,14 @@ returns c =
     let own-role = executed .before in
     let user-role = own-role .before .before in
     let forced-of = user-role .before .before in
-    let value-at2 = forced-of .before in
-    let initial-of = value-at2 .before .before in
-    let value-at = initial-of .before in
-    let process-at = value-at .before .before in
+    let kept-at2 = forced-of .before in
+    let initial-of = kept-at2 .before .before in
+    let kept-at = initial-of .before in
+    let process-at = kept-at .before .before in
     let execute-no = process-at .before .before in
     decide-words .decide-words .ensures
     ∙ decides _ _ _ _ _ _ _ (execute-no .execute-no .ensures) refl
-    (simp (process-addr .process-addr .ensures, process-words .process-words .ensures, executed .executed .ensures, own-role .own-role .ensures, user-role .user-role .ensures, forced-of .forced-of .ensures, value-at2 .value-at2 .ensures, initial-of .initial-of .ensures, value-at .value-at .ensures, process-at .process-at .ensures))
+    (simp (process-addr .process-addr .ensures, process-words .process-words .ensures, executed .executed .ensures, own-role .own-role .ensures, user-role .user-role .ensures, forced-of .forced-of .ensures, kept-at2 .kept-at2 .ensures, initial-of .initial-of .ensures, kept-at .kept-at .ensures, process-at .process-at .ensures))
 
 pub execute-spec : {M : Type 1} → statement M
 execute-spec =
@@ -76,9 +76,9 @@ execute-spec =
     (tie.spec
     execute-no-requires
     process-at-requires
-    value-at-requires
+    kept-at-requires
     initial-of-requires
-    value-at-requires-2
+    kept-at-requires-2
     forced-of-requires
     user-role-requires
     own-role-requires

@@ -11,8 +11,8 @@ file-word-requires c κs = search needs
 unless-requires : tie.Need-unless-requires
 unless-requires c κs = search needs
 
-value-at-requires : tie.Need-value-at-requires
-value-at-requires c κs = search needs
+kept-at-requires : tie.Need-kept-at-requires
+kept-at-requires c κs = search needs
 
 may-requires : tie.Need-may-requires
 may-requires c κs = search needs
@@ -33,7 +33,7 @@ execute-no-spec =
     (tie.spec
     file-word-requires
     unless-requires
-    value-at-requires
+    kept-at-requires
     may-requires
     unless-requires-2
     first-requires

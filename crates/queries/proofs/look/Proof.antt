@@ -9,14 +9,11 @@ use Rattle.queries.proofs.look.Tie as tie
 look-no-requires : tie.Need-look-no-requires
 look-no-requires c κs = search needs
 
-value-at-requires : tie.Need-value-at-requires
-value-at-requires c κs = search needs
-
 returns : tie.Need-returns
 unfolding look
 returns c =
-    let number = c .before .before .look-no in
-    rw (eq-eqb (lookNo _ _) 0 (sym (number .ensures) ∙ c .before .if1 .taken)) (c .value-at .ensures)
+    let number = c .before .look-no in
+    rw (eq-eqb (lookNo _ _) 0 (sym (number .ensures) ∙ c .if1 .taken))
 
 returns-2 : tie.Need-returns-2
 unfolding look
@@ -25,4 +22,4 @@ returns-2 c =
     rw (← number .ensures, ne-eqb (number .result) 0 (c .if1 .left))
 
 pub look-spec : {M : Type 1} → statement M
-look-spec = tie.close (tie.spec look-no-requires value-at-requires returns returns-2)
+look-spec = tie.close (tie.spec look-no-requires returns returns-2)

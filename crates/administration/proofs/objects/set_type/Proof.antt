@@ -1,7 +1,7 @@
 -- The tests in their order, and the word that the definition writes.
 -- Assumes nothing.
 use mathlib.Core.Path.{refl, _∙_}
-use Rattle.model.specs.Administration.{setTypeRow, rulingOn}
+use Rattle.administration.specs.Written.{writingOn}
 use Rattle.model.proofs.Decided.{decides}
 use borrow.Author.Needs.{needs}
 use Rattle.administration.proofs.objects.set_type.Statement.{statement}
@@ -20,7 +20,7 @@ same-length : tie.Need-same-length
 same-length c = search needs
 
 returns : tie.Need-returns
-unfolding rulingOn setTypeRow
+unfolding writingOn
 returns c = c .before .before .decide-word .ensures ∙ decides _ _ _ _ _ _ _ (c .before .before .before .before .before .set-type-no .ensures) refl (simp (c .before .before .before .type-addr .ensures))
 
 pub set-type-spec : {M : Type 1} → statement M

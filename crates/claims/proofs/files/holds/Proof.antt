@@ -1,62 +1,35 @@
 -- Each return goes by the tests that led there: the place is free, or no DIR, or a DIR.
-use mathlib.Core.Path.{sym, _∙_}
+-- Assumes nothing.
 use mathlib.Core.Bool.{and-true}
-use borrow.Author.Needs.{needs}
-use borrow.Author.Tests.{eq-eqb, ne-eqb, not-true, not-false}
-use Rattle.model.specs.Numbers.{DIR}
+use borrow.Author.Tests.{eq-eqb, ne-eqb}
+use Rattle.model.specs.Numbers.{FREE, DIR}
 use Rattle.claims.specs.Parts.{holdsBy}
-use Rattle.claims.proofs.files.holds.Statement.{statement}
+use borrow.Author.Needs.{needs}
 use Rattle.claims.proofs.files.holds.Tie as tie
-
-types-in-requires : tie.Need-types-in-requires
-types-in-requires c κs = search needs
-
-occupied-requires : tie.Need-occupied-requires
-occupied-requires c κs = search needs
+use Rattle.claims.proofs.files.holds.Statement.{statement}
 
 returns : tie.Need-returns
 unfolding holdsBy
-returns c =
-    let o = c .before .before in
-    rw (sym (o .occupied .ensures) ∙ not-true _ (c .before .if1 .taken), o .before .types-in .ensures)
+returns c = rw (eq-eqb _ FREE (c .before .if1 .taken))
+
+kept-at-requires : tie.Need-kept-at-requires
+kept-at-requires c κs = search needs
 
 has-requires : tie.Need-has-requires
 has-requires c κs = search needs
 
-file-word-requires : tie.Need-file-word-requires
-file-word-requires c κs = search needs
-
 returns-2 : tie.Need-returns-2
 unfolding holdsBy
 returns-2 c =
-    let i = c .before .before .before in
-    let o = i .before in
-    let taken = sym (o .occupied .ensures) ∙ not-false _ (i .if1 .left) in
-    let kind = ne-eqb _ DIR (λ q. c .if2 .taken (c .before .file-word .ensures ∙ q)) in
-    rw (taken, kind, and-true, c .before .before .has .ensures, o .before .types-in .ensures)
-
-closed-requires : tie.Need-closed-requires
-closed-requires c κs = search needs
+    let h = c .before in
+    rw (ne-eqb _ FREE (h .before .before .if1 .left), ne-eqb _ DIR (c .if2 .taken), and-true, ← h .before .kept-at .ensures) (h .has .ensures)
 
 returns-3 : tie.Need-returns-3
 unfolding holdsBy
 returns-3 c =
-    let k = c .before .before in
-    let i = k .before .before in
-    let o = i .before in
-    let taken = sym (o .occupied .ensures) ∙ not-false _ (i .if1 .left) in
-    let kind = eq-eqb _ DIR (sym (k .file-word .ensures) ∙ c .before .if2 .left) in
-    rw (taken, kind, c .closed .ensures, k .before .has .ensures, o .before .types-in .ensures)
+    let i = c .before .before in
+    let h = i .before in
+    rw (ne-eqb _ FREE (h .before .before .if1 .left), eq-eqb _ DIR (i .if2 .left), ← h .before .kept-at .ensures, h .has .ensures)
 
 pub holds-spec : {M : Type 1} → statement M
-holds-spec =
-    tie.close
-    (tie.spec
-    types-in-requires
-    occupied-requires
-    returns
-    has-requires
-    file-word-requires
-    returns-2
-    closed-requires
-    returns-3)
+holds-spec = tie.close (tie.spec returns kept-at-requires has-requires returns-2 returns-3)

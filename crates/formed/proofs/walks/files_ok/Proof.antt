@@ -1,7 +1,7 @@
--- The walk has met no ill-formed file below k; the first that it meets is enough for the answer false.
+-- The walk has met no ill-formed file below k, nor a value kept that is not one step of the climb; the first that it meets is enough for the answer false.
 use Prim.Native.Nat.{_≤_, _-_}
 use mathlib.Core.Path.{_≡_, refl, sym, _∙_}
-use mathlib.Core.Bool.{true}
+use mathlib.Core.Bool.{true, _&&_}
 use native.Mathlib.Omega.{arith}
 use borrow.Author.Needs.{needs}
 use borrow.Author.Tests.{not-true, not-false}
@@ -9,11 +9,12 @@ use Rattle.sets.specs.Below.{allBelow}
 use Rattle.sets.proofs.Below.{all-next, all-miss}
 use Rattle.model.specs.Numbers.{FILES}
 use Rattle.model.specs.WellFormed.{fileOk}
+use Rattle.formed.specs.Steps.{stepOk}
 use Rattle.formed.proofs.walks.files_ok.Statement.{statement}
 use Rattle.formed.proofs.walks.files_ok.Tie as tie
 
 abbrev Inv-loop : tie.InvT-loop
-Inv-loop t k₀ k = (allBelow k (fileOk t) ≡ true) × (k ≤ FILES)
+Inv-loop t k₀ k = (allBelow k (λ o. fileOk t o && stepOk t o) ≡ true) × (k ≤ FILES)
 
 abbrev μ-loop : tie.MeasureT-loop
 μ-loop t k₀ k = FILES - k

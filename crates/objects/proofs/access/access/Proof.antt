@@ -1,6 +1,5 @@
--- A file has the answer of access_file, whose equation is this one at group FILESYSTEM. Else the tests in their order; the row stays either way.
+-- A file has the answer of access_file, whose equation is this one at group FILESYSTEM. Else the number decides, and the row stays either way.
 -- Assumes nothing.
-use Rattle.model.specs.Calls.{accessNo}
 use Rattle.model.specs.Step.{ruling}
 use Rattle.model.proofs.Decided.{decide-nothing}
 use borrow.Author.Needs.{needs}
@@ -13,9 +12,6 @@ access-file-requires c κs = search needs
 returns : tie.Need-returns
 returns c = rw (c .before .if1 .taken) (c .access-file .ensures)
 
-type-of-requires : tie.Need-type-of-requires
-type-of-requires c κs = search needs
-
 access-no-requires : tie.Need-access-no-requires
 access-no-requires c κs = search needs
 
@@ -23,17 +19,9 @@ refusal-requires : tie.Need-refusal-requires
 refusal-requires c κs = search needs
 
 returns-2 : tie.Need-returns-2
-unfolding ruling accessNo
-returns-2 c =
-    rw (c .refusal .ensures, c .before .access-no .ensures, c .before .before .type-of .ensures) (decide-nothing _ _)
+unfolding ruling
+returns-2 c = rw (c .refusal .ensures, c .before .access-no .ensures) (decide-nothing _ _)
 
 pub access-spec : {M : Type 1} → statement M
 access-spec =
-    tie.close
-    (tie.spec
-    access-file-requires
-    returns
-    type-of-requires
-    access-no-requires
-    refusal-requires
-    returns-2)
+    tie.close (tie.spec access-file-requires returns access-no-requires refusal-requires returns-2)

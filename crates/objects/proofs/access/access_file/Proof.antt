@@ -1,15 +1,10 @@
--- As for any object: the type of a file is the one that it inherits or has.
+-- As for any object.
 -- Assumes nothing.
-use Rattle.model.specs.Calls.{accessNo}
-use Rattle.model.specs.Effective.{typeOf}
 use Rattle.model.specs.Step.{ruling}
 use Rattle.model.proofs.Decided.{decide-nothing}
 use borrow.Author.Needs.{needs}
 use Rattle.objects.proofs.access.access_file.Statement.{statement}
 use Rattle.objects.proofs.access.access_file.Tie as tie
-
-value-at-requires : tie.Need-value-at-requires
-value-at-requires c κs = search needs
 
 access-no-requires : tie.Need-access-no-requires
 access-no-requires c κs = search needs
@@ -18,9 +13,8 @@ refusal-requires : tie.Need-refusal-requires
 refusal-requires c κs = search needs
 
 returns : tie.Need-returns
-unfolding ruling accessNo typeOf
-returns c =
-    rw (c .refusal .ensures, c .before .access-no .ensures, c .before .before .value-at .ensures) (decide-nothing _ _)
+unfolding ruling
+returns c = rw (c .refusal .ensures, c .before .access-no .ensures) (decide-nothing _ _)
 
 pub access-file-spec : {M : Type 1} → statement M
-access-file-spec = tie.close (tie.spec value-at-requires access-no-requires refusal-requires returns)
+access-file-spec = tie.close (tie.spec access-no-requires refusal-requires returns)

@@ -5,8 +5,8 @@ use borrow.Author.Needs.{needs}
 use Rattle.objects.proofs.files.delete_no.Statement.{statement}
 use Rattle.objects.proofs.files.delete_no.Tie as tie
 
-value-at-requires : tie.Need-value-at-requires
-value-at-requires c κs = search needs
+kept-at-requires : tie.Need-kept-at-requires
+kept-at-requires c κs = search needs
 
 may-requires : tie.Need-may-requires
 may-requires c κs = search needs
@@ -40,7 +40,7 @@ pub delete-no-spec : {M : Type 1} → statement M
 delete-no-spec =
     tie.close
     (tie.spec
-    value-at-requires
+    kept-at-requires
     may-requires
     removable-requires
     occupied-requires

@@ -1,14 +1,15 @@
 -- The address stays within the row's length, which is what ends the loop.
 use Prim.Native.Nat.{_≤_, _-_}
 use borrow.Author.Needs.{needs}
+use Rattle.model.specs.Layout.{rowLength}
 use Rattle.trials.proofs.night.same.Statement.{statement}
 use Rattle.trials.proofs.night.same.Tie as tie
 
 abbrev Inv-loop : tie.InvT-loop
-Inv-loop t s ok₀ a₀ ok a = a ≤ 5376
+Inv-loop t s ok₀ a₀ ok a = a ≤ rowLength
 
 abbrev μ-loop : tie.MeasureT-loop
-μ-loop t s ok₀ a₀ ok a = 5376 - a
+μ-loop t s ok₀ a₀ ok a = rowLength - a
 
 loop-holds : tie.Need-loop-holds Inv-loop μ-loop
 loop-holds c = search needs
