@@ -135,7 +135,7 @@ int main(void)
     ask(0, RC_CALL_ADD_RIGHT, RC_GROUP_FILESYSTEM, 0, 0, RC_RIGHT_CREATE);
     uint32_t programs = ask(0, RC_CALL_CREATE, RC_DIR, 0, 0, 0).place;
     uint32_t program = ask(0, RC_CALL_CREATE, RC_FILE, programs, 0, 0).place;
-    ask(0, RC_CALL_SET_FORCED, programs, ROLE, 0, 0);
+    ask(0, RC_CALL_SET_PROGRAM_ROLES, programs, RC_USE_FORCED_ROLE, ROLE, 0);
     tell_forced(program);
 
     uint32_t in_metres = new_list(METRES), in_kilopascals = new_list(KILOPASCALS);

@@ -144,14 +144,16 @@
 #define RC_CALL_ADD_ROLE 11u          /* RC_SET_..., the role whose set changes, member */
 #define RC_CALL_REMOVE_ROLE 12u       /* the same */
 #define RC_CALL_SET_USER_ROLE 13u     /* user, role */
-#define RC_CALL_SET_INITIAL 14u       /* file, value */
-#define RC_CALL_SET_FORCED 15u        /* file, value */
 #define RC_CALL_SET_PROCESS_FORCED 16u /* process, value */
 #define RC_CALL_SET_DEFAULT_TYPE 17u  /* RC_DEFAULT_..., role, value */
 #define RC_CALL_SET_ROLE_ADMIN 18u    /* role, mark (1 or 0) */
 #define RC_CALL_SET_TYPE 19u          /* group, object, value */
 #define RC_CALL_ADD_RIGHT 20u         /* group, role, type, right (0 to 31) */
 #define RC_CALL_REMOVE_RIGHT 21u      /* the same */
+#define RC_CALL_SET_PROGRAM_ROLES 22u /* file, initial, forced */
+#define RC_CALL_LAST RC_CALL_SET_PROGRAM_ROLES
+/* Kind 22 sets both values of the file, or neither. Kinds 14 and 15 once set one of them each: they are unknown now, and
+   will not be used again. */
 
 #define RC_SET_COMPATIBLE 0u
 #define RC_SET_ADMIN 1u
@@ -260,7 +262,7 @@ struct rc_found rc_effective_forced(const uint32_t *tables, size_t words, uint32
 struct rc_found rc_file_kind(const uint32_t *tables, size_t words, uint32_t file);
 
 /* Checks a claim of RC_CLAIM_WORDS words by the rules C1 to C9. Accepted with 0, the process and all that it clones hold
-   only the roles of S, are granted no administration call (kinds 11 to 21) and never write, delete or create an object
+   only the roles of S, are granted no administration call (kinds 11 to 22) and never write, delete or create an object
    of the protected type, whatever calls are made, for as long as no process outside is granted one either. */
 struct rc_verdict rc_check_claim(const uint32_t *tables, size_t words, const uint32_t *claim, size_t claim_words);
 
@@ -318,7 +320,7 @@ static inline const char *rc_rule_text(uint32_t rule)
     }
 }
 
-/* A kind of call, RC_CALL_ACCESS to RC_CALL_REMOVE_RIGHT. */
+/* A kind of call, RC_CALL_ACCESS to RC_CALL_LAST; 14 and 15 are none. */
 static inline const char *rc_kind_text(uint32_t kind)
 {
     switch (kind) {
@@ -335,14 +337,13 @@ static inline const char *rc_kind_text(uint32_t kind)
     case RC_CALL_ADD_ROLE: return "add role to a set";
     case RC_CALL_REMOVE_ROLE: return "remove role from a set";
     case RC_CALL_SET_USER_ROLE: return "set user's default role";
-    case RC_CALL_SET_INITIAL: return "set file's initial value";
-    case RC_CALL_SET_FORCED: return "set file's forced value";
     case RC_CALL_SET_PROCESS_FORCED: return "set process's forced value";
     case RC_CALL_SET_DEFAULT_TYPE: return "set role's default type";
     case RC_CALL_SET_ROLE_ADMIN: return "set role's Role Admin mark";
     case RC_CALL_SET_TYPE: return "set object's type";
     case RC_CALL_ADD_RIGHT: return "add right";
     case RC_CALL_REMOVE_RIGHT: return "remove right";
+    case RC_CALL_SET_PROGRAM_ROLES: return "set file's initial and forced values";
     default: return "unknown";
     }
 }

@@ -132,6 +132,23 @@ static void refresh(enum who who)
     call(who, RC_CALL_SET_TYPE, ADMIN, RC_GROUP_FILESYSTEM, 0, type);
 }
 
+/* Both values change each time between two. */
+static void set_roles(enum who who, uint32_t file)
+{
+    uint32_t role = row[RC_FILES_AT + RC_FILE_WORDS * file + RC_FILE_INITIAL] == 5 ? 7 : 5;
+    call(who, RC_CALL_SET_PROGRAM_ROLES, ADMIN, file, role, role + 1);
+}
+
+static void program_roles(enum who who)
+{
+    set_roles(who, PROGRAM);
+}
+
+static void refresh_roles(enum who who)
+{
+    set_roles(who, 0);
+}
+
 /* ---- What the items are made on ---- */
 
 static void busy(void)
@@ -164,10 +181,22 @@ static void backward(void)
     backward_tree(row);
 }
 
-static void after_refreshes(void)
+/* Every object keeps the root's own value, which is the type, or the initial or forced one behind it. */
+static void follow_root(uint32_t which)
 {
     for (uint32_t f = 0; f < LAST_FILE; f++)
-        refused |= row[RC_KEPT_AT + RC_KEPT_WORDS * f + RC_KEPT_TYPE] != row[RC_FILES_AT + RC_FILE_TYPE];
+        refused |= row[RC_KEPT_AT + RC_KEPT_WORDS * f + which] != row[RC_FILES_AT + RC_FILE_TYPE + which];
+}
+
+static void after_refreshes(void)
+{
+    follow_root(RC_KEPT_TYPE);
+}
+
+static void after_both_refreshes(void)
+{
+    follow_root(RC_KEPT_INITIAL);
+    follow_root(RC_KEPT_FORCED);
 }
 
 static void before_the_night(void)
@@ -199,6 +228,8 @@ static const struct {
     {"refresh-flat", "set root's type, flat tree", 1, 1, refresh, flat, after_refreshes},
     {"refresh-deep", "set root's type, deep tree", 1, 1, refresh, deep, after_refreshes},
     {"refresh-backward", "set root's type, backward", 1, 1, refresh, backward, after_refreshes},
+    {"program-roles", "set program roles", 1, 1, program_roles, busy, NULL},
+    {"program-roles-deep", "set root's roles, deep", 1, 1, refresh_roles, deep, after_both_refreshes},
     {"claim-dense", "claim accepted, dense", 1, 1, check_claim, dense, NULL},
     {"claim-sparse", "claim accepted, sparse", 1, 1, check_claim, sparse, NULL},
     {"setpoint", "setpoint in metres", 1, 1, setpoint, busy, NULL},

@@ -341,41 +341,56 @@ static uint32_t *kept_word(struct tables *t, uint32_t file, enum inherited which
     return (uint32_t *)&t->kept[file] + which;
 }
 
-/* All that inherit, in one walk: what a parent at an earlier place keeps is right by then, and one at a later place is
-   climbed to. */
-static void refresh(struct tables *t, enum inherited which)
+/* What a place keeps of a value that it inherits: a parent at an earlier place is right by then, and one at a later place
+   is climbed to. */
+static inline void refresh_place(struct tables *t, uint32_t o, enum inherited which)
+{
+    if (*own_word(t, o, which) != RC_INHERIT_PARENT)
+        return;
+    uint32_t parent = t->file[o].parent;
+    *kept_word(t, o, which) = parent < o ? *kept_word(t, parent, which) : effective(t, o, which);
+}
+
+static void refresh_types(struct tables *t)
+{
+    for (uint32_t o = 1; o < RC_FILES; o++)
+        refresh_place(t, o, TYPE);
+}
+
+/* Both in one walk, also where but one of them has moved. */
+static void refresh_roles(struct tables *t)
 {
     for (uint32_t o = 1; o < RC_FILES; o++) {
-        if (*own_word(t, o, which) != RC_INHERIT_PARENT)
-            continue;
-        uint32_t parent = t->file[o].parent;
-        *kept_word(t, o, which) = parent < o ? *kept_word(t, parent, which) : effective(t, o, which);
+        refresh_place(t, o, INITIAL);
+        refresh_place(t, o, FORCED);
     }
 }
 
-/* Nothing is below a FILE, and nothing moves below a DIR whose value comes to what it was. */
-static void set_value(struct tables *t, uint32_t file, uint32_t value, enum inherited which)
+/* Whether everything below must follow: nothing is below a FILE, and nothing moves below a DIR whose value comes to what it
+   was. */
+static inline bool put_value(struct tables *t, uint32_t file, uint32_t value, enum inherited which)
 {
     uint32_t *kept = kept_word(t, file, which), before = *kept;
     *own_word(t, file, which) = value;
     *kept = own_or(value, file == ROOT ? *((const uint32_t *)&above_root + which)
                                        : *kept_word(t, t->file[file].parent, which));
-    if (t->file[file].kind == RC_DIR && *kept != before)
-        refresh(t, which);
+    return t->file[file].kind == RC_DIR && *kept != before;
 }
 
-/* The initial or the forced value. */
-BODY set_file_role(struct tables *t, const struct process *p, uint32_t file, uint32_t value, enum inherited which)
+/* The initial and the forced value (W-207); one MODIFY_ATTRIBUTE is asked for both. */
+BODY set_program_roles(struct tables *t, const struct process *p, uint32_t file, uint32_t initial, uint32_t forced)
 {
-    if (file >= RC_FILES || !(which == INITIAL ? is_initial(value) : is_forced(value)))
+    if (file >= RC_FILES || !is_initial(initial) || !is_forced(forced))
         return answer(RC_OUT_OF_RANGE, 0);
     const struct role *own = &t->role[p->role];
     if (t->file[file].kind == RC_FREE)
         return answer(RC_NO_SUCH_PLACE, 0);
-    if (!own->mark && (!contains(own->assign, value) ||
+    if (!own->mark && (!contains(own->assign, initial) || !contains(own->assign, forced) ||
                        !has_right(t, RC_GROUP_FILESYSTEM, p->role, t->kept[file].type, RC_RIGHT_MODIFY_ATTRIBUTE)))
         return answer(RC_NOT_ALLOWED, 0);
-    set_value(t, file, value, which);
+    bool initial_moves = put_value(t, file, initial, INITIAL), forced_moves = put_value(t, file, forced, FORCED);
+    if (initial_moves || forced_moves)
+        refresh_roles(t);
     return answer(RC_GRANTED, 0);
 }
 
@@ -443,10 +458,10 @@ BODY set_type(struct tables *t, const struct process *p, uint32_t group, uint32_
         return answer(RC_NO_SUCH_PLACE, 0);
     if (!t->role[p->role].mark && !may_set_type(t, p->role, group, object, *type, value))
         return answer(RC_NOT_ALLOWED, 0);
-    if (group == RC_GROUP_FILESYSTEM)
-        set_value(t, object, value, TYPE);
-    else
+    if (group != RC_GROUP_FILESYSTEM)
         *type = value;
+    else if (put_value(t, object, value, TYPE))
+        refresh_types(t);
     return answer(RC_GRANTED, 0);
 }
 
@@ -487,14 +502,13 @@ __attribute__((always_inline)) static inline struct rc_answer act(struct tables 
     case RC_CALL_ADD_ROLE: return d ? out : change_set(t, p, a, b, c, true);
     case RC_CALL_REMOVE_ROLE: return d ? out : change_set(t, p, a, b, c, false);
     case RC_CALL_SET_USER_ROLE: return c | d ? out : set_user_role(t, p, a, b);
-    case RC_CALL_SET_INITIAL: return c | d ? out : set_file_role(t, p, a, b, INITIAL);
-    case RC_CALL_SET_FORCED: return c | d ? out : set_file_role(t, p, a, b, FORCED);
     case RC_CALL_SET_PROCESS_FORCED: return c | d ? out : set_process_forced(t, p, a, b);
     case RC_CALL_SET_DEFAULT_TYPE: return d ? out : set_default_type(t, p, a, b, c);
     case RC_CALL_SET_ROLE_ADMIN: return c | d ? out : set_role_admin(t, p, a, b);
     case RC_CALL_SET_TYPE: return d ? out : set_type(t, p, a, b, c);
     case RC_CALL_ADD_RIGHT: return change_right(t, p, a, b, c, d, true);
     case RC_CALL_REMOVE_RIGHT: return change_right(t, p, a, b, c, d, false);
+    case RC_CALL_SET_PROGRAM_ROLES: return d ? out : set_program_roles(t, p, a, b, c);
     default: return out;
     }
 }

@@ -3,10 +3,11 @@
 #include "tables.h"
 #include <string.h>
 
-/* Rounds of one call of each kind come in pairs; what a night has besides is odd: refused, or no call at all. */
-#define KINDS RC_CALL_REMOVE_RIGHT
-#define PAIRS 233u
-#define ODD 214u
+/* Rounds of one call of each kind come in pairs; what a night has besides is odd: refused, or no call at all. Two numbers
+   below the last are no kinds (W-207). */
+#define KINDS (RC_CALL_LAST - 2)
+#define PAIRS 245u
+#define ODD 200u
 _Static_assert(2 * KINDS * PAIRS + ODD == NIGHT_ITEMS, "the night has its items");
 
 #define HELPER 6u /* a process in role 7, which may assign and administrate all roles, and has all rights */
@@ -54,8 +55,7 @@ static uint8_t *put_administration(uint8_t *item, uint32_t n, uint32_t group, ui
         {RC_CALL_ADD_ROLE, who, set, role, 9, 0},
         {RC_CALL_REMOVE_ROLE, who, set, role, 9, 0},
         {RC_CALL_SET_USER_ROLE, who, role, back ? 4 : 5, 0, 0},
-        {RC_CALL_SET_INITIAL, who, file, back ? RC_INHERIT_PARENT : 5, 0, 0},
-        {RC_CALL_SET_FORCED, who, file, back ? RC_INHERIT_PARENT : 6, 0, 0},
+        {RC_CALL_SET_PROGRAM_ROLES, who, file, back ? RC_INHERIT_PARENT : 5, back ? RC_INHERIT_PARENT : 6, 0},
         {RC_CALL_SET_PROCESS_FORCED, who, 10 + n % 32, back ? RC_UP_MIXED : 9, 0, 0},
         {RC_CALL_SET_DEFAULT_TYPE, ADMIN, which, role, back ? no_default : 3, 0},
         {RC_CALL_SET_ROLE_ADMIN, ADMIN, role, !back, 0, 0},
@@ -87,7 +87,7 @@ static uint8_t *put_odd(uint8_t *item, uint32_t n)
         {RC_CALL_CREATE, CALLER, RC_FILE, DEEP},
         {RC_CALL_EXIT, RC_PROCESSES},
         {RC_CALL_CREATE_IPC, CALLER, [RC_ITEM_BYTES - 1] = 1},
-        {RC_CALL_REMOVE_RIGHT + 1, CALLER},
+        {RC_CALL_LAST + 1, CALLER},
     };
     memcpy(item, odd[n % (sizeof odd / sizeof odd[0])], RC_ITEM_BYTES);
     return item + RC_ITEM_BYTES;

@@ -41,7 +41,9 @@ static bool same_calls(uint32_t n)
            same_call(RC_CALL_CREATE, CALLER, n, n, 0) && same_call(RC_CALL_DELETE, CALLER, LAST_FILE, 0, 0) &&
            same_call(RC_CALL_DELETE, CALLER, n, 0, 0) &&
            same_call(RC_CALL_SET_TYPE, ADMIN, RC_GROUP_FILESYSTEM, 0, n) &&
-           same_call(RC_CALL_SET_INITIAL, ADMIN, FOLDER, n, 0) && same_call(RC_CALL_SET_FORCED, ADMIN, n % 16, n, 0);
+           same_call(RC_CALL_SET_PROGRAM_ROLES, ADMIN, FOLDER, n, 7) &&
+           same_call(RC_CALL_SET_PROGRAM_ROLES, ADMIN, n % 16, RC_INHERIT_PARENT, n) &&
+           same_call(RC_CALL_SET_PROGRAM_ROLES, CALLER, FOLDER, n, n);
 }
 
 static bool same_climb(uint32_t file)

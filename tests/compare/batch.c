@@ -8,13 +8,13 @@
 #include <stdio.h>
 #include <string.h>
 
-#define KINDS (RC_CALL_REMOVE_RIGHT + 1)
+#define KINDS (RC_CALL_LAST + 1)
 #define NUMBERS_AT 2u /* behind the kind and the caller */
 #define CALL_BYTES 6u /* the kind, the caller and four numbers, as many as a call has */
 #define MOST_ITEMS (TWIN_ITEMS - 1) /* which leaves room for a part of one more */
 
 /* How many numbers each kind takes, from kind 0 on, as docs/KINDS.md lists them; all bytes behind those are filler. */
-static const uint8_t takes[KINDS] = {0, 3, 0, 0, 1, 1, 1, 2, 1, 0, 1, 3, 3, 2, 2, 2, 2, 3, 2, 3, 4, 4};
+static const uint8_t takes[KINDS] = {0, 3, 0, 0, 1, 1, 1, 2, 1, 0, 1, 3, 3, 2, 0, 0, 2, 3, 2, 3, 4, 4, 3};
 
 /* The tables before the night, and what the items one by one leave and answer. */
 static uint32_t row[RC_WORDS], after[RC_WORDS];
@@ -47,7 +47,9 @@ enum {
     NEW_FILE_USED,
     NEW_IPC_USED,
     KIND_0,
-    KIND_22,
+    KIND_14,
+    KIND_15,
+    KIND_23,
     KIND_255,
     CALLER_64,
     CALLER_255,
@@ -73,7 +75,9 @@ static const char *const case_name[CASES] = {
     [NEW_FILE_USED] = "a new file is used",
     [NEW_IPC_USED] = "a new IPC object",
     [KIND_0] = "kind 0",
-    [KIND_22] = "kind 22",
+    [KIND_14] = "kind 14",
+    [KIND_15] = "kind 15",
+    [KIND_23] = "kind 23",
     [KIND_255] = "kind 255",
     [CALLER_64] = "caller 64",
     [CALLER_255] = "caller 255",
@@ -97,11 +101,16 @@ static uint64_t night_count, item_count;
 bool night_report(void)
 {
     const char *kind_name[KINDS];
+    uint64_t kind_hits[KINDS];
+    int kinds = 0;
     for (uint32_t kind = 0; kind < KINDS; kind++)
-        kind_name[kind] = rc_kind_text(kind);
+        if (is_known(kind)) {
+            kind_name[kinds] = rc_kind_text(kind);
+            kind_hits[kinds++] = granted_hits[kind];
+        }
     printf("%" PRIu64 " nights of %" PRIu64 " items\n", night_count, item_count);
     bool complete = twin_counts("items answered", answer_name, answer_hits, ANSWERS);
-    complete &= twin_counts("items granted", kind_name + 1, granted_hits + 1, KINDS - 1);
+    complete &= twin_counts("items granted", kind_name, kind_hits, kinds);
     complete &= twin_counts("first filler not zero at byte", filler_name + NUMBERS_AT, filler_hits + NUMBERS_AT,
                             RC_ITEM_BYTES - NUMBERS_AT);
     return twin_counts("nights", case_name, case_hits, CASES) && complete;
@@ -115,22 +124,16 @@ static uint8_t *place_in(uint8_t *item, enum table *table)
     switch (item[0]) {
     case RC_CALL_EXECUTE:
     case RC_CALL_DELETE:
-    case RC_CALL_SET_INITIAL:
-    case RC_CALL_SET_FORCED: *table = FILE_OR_DIR; return item + NUMBERS_AT;
+    case RC_CALL_SET_PROGRAM_ROLES: *table = FILE_OR_DIR; return item + NUMBERS_AT;
     case RC_CALL_CREATE: *table = FILE_OR_DIR; return item + NUMBERS_AT + 1;
     case RC_CALL_DELETE_IPC: *table = IPC; return item + NUMBERS_AT;
     default: *table = PROCESS; return item + 1;
     }
 }
 
-static bool is_unknown(const uint8_t *item)
-{
-    return item[0] == 0 || item[0] >= KINDS;
-}
-
 static uint32_t filler_at(const uint8_t *item)
 {
-    return NUMBERS_AT + (is_unknown(item) ? 0 : takes[item[0]]);
+    return NUMBERS_AT + (is_known(item[0]) ? takes[item[0]] : 0);
 }
 
 /* The first byte of filler that is not zero, or the item's end. */
@@ -176,7 +179,7 @@ static void choose_item(uint8_t *item)
 
 static void count_item(uint8_t *item, bool refused_before, struct rc_answer answer, bool dead)
 {
-    bool granted = answer.number == RC_GRANTED, unknown = is_unknown(item);
+    bool granted = answer.number == RC_GRANTED, unknown = !is_known(item[0]);
     enum table table;
     uint8_t *place = place_in(item, &table);
     bool used = granted && newest[table] == *place;
@@ -187,7 +190,9 @@ static void count_item(uint8_t *item, bool refused_before, struct rc_answer answ
         [NEW_FILE_USED] = used && table == FILE_OR_DIR,
         [NEW_IPC_USED] = used && table == IPC,
         [KIND_0] = item[0] == 0,
-        [KIND_22] = item[0] == 22,
+        [KIND_14] = item[0] == GONE_SET_INITIAL,
+        [KIND_15] = item[0] == GONE_SET_FORCED,
+        [KIND_23] = item[0] == RC_CALL_LAST + 1,
         [KIND_255] = item[0] == 255,
         [CALLER_64] = item[1] == RC_PROCESSES,
         [CALLER_255] = item[1] == 255,
@@ -211,7 +216,7 @@ static struct rc_answer make_alone(const uint8_t *item)
     struct rc_answer answer = {RC_OUT_OF_RANGE, 0};
     if (damaged < CALL_BYTES || damaged == RC_ITEM_BYTES)
         answer = twin_call(item[0], item[1], item[2], item[3], item[4], item[5]);
-    if (answer.number != RC_OUT_OF_RANGE && (is_unknown(item) || damaged < RC_ITEM_BYTES))
+    if (answer.number != RC_OUT_OF_RANGE && (!is_known(item[0]) || damaged < RC_ITEM_BYTES))
         twin_differs("what is no call was not answered 2");
     return answer;
 }

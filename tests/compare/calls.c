@@ -1,5 +1,4 @@
 #include "calls.h"
-#include "../../include/monitor.h"
 #include "random.h"
 
 uint32_t huge(void)
@@ -87,8 +86,9 @@ static uint32_t some_right(void)
 
 uint32_t random_kind(void)
 {
-    uint32_t kind = below(RC_CALL_REMOVE_RIGHT + 1);
-    if ((kind == RC_CALL_EXIT || kind == RC_CALL_DELETE || kind == RC_CALL_DELETE_IPC || kind == 0) && percent(60))
+    uint32_t kind = below(RC_CALL_LAST + 1);
+    bool empties = kind == RC_CALL_EXIT || kind == RC_CALL_DELETE || kind == RC_CALL_DELETE_IPC;
+    if ((empties || !is_known(kind)) && percent(60))
         kind = RC_CALL_CLONE + below(RC_CALL_CREATE_IPC - RC_CALL_CLONE + 1);
     return kind;
 }
@@ -98,7 +98,7 @@ struct call some_call(const uint32_t *row, uint32_t kind)
     uint32_t a = unused(), b = unused(), c = unused(), d = unused();
     uint32_t caller = some_process(row);
     switch (kind) {
-    case 0: kind = percent(30) ? 0 : percent(50) ? RC_CALL_REMOVE_RIGHT + 1 + below(20) : huge(); break;
+    case 0: kind = percent(30) ? 0 : percent(50) ? RC_CALL_LAST + 1 + below(20) : huge(); break;
     case RC_CALL_ACCESS: a = number(RC_GROUPS), b = object_of(row, a), c = number(RC_RIGHT_ADMIN); break;
     case RC_CALL_EXECUTE: a = some_file_of(row, RC_FILE); break;
     case RC_CALL_DELETE: a = some_file(row); break;
@@ -109,8 +109,8 @@ struct call some_call(const uint32_t *row, uint32_t kind)
     case RC_CALL_ADD_ROLE:
     case RC_CALL_REMOVE_ROLE: a = number(3), b = number(RC_ROLES), c = number(RC_ROLES); break;
     case RC_CALL_SET_USER_ROLE: a = number(RC_USERS), b = number(RC_ROLES); break;
-    case RC_CALL_SET_INITIAL:
-    case RC_CALL_SET_FORCED: a = some_file(row), b = some_value(); break;
+    case GONE_SET_INITIAL:
+    case GONE_SET_FORCED: a = some_file(row), b = some_value(); break;
     case RC_CALL_SET_PROCESS_FORCED: a = some_process(row), b = some_value(); break;
     case RC_CALL_SET_DEFAULT_TYPE: a = number(5), b = number(RC_ROLES), c = some_type(); break;
     case RC_CALL_SET_ROLE_ADMIN: a = number(RC_ROLES), b = number(2); break;
@@ -119,6 +119,7 @@ struct call some_call(const uint32_t *row, uint32_t kind)
     case RC_CALL_REMOVE_RIGHT:
         a = number(RC_GROUPS), b = number(RC_ROLES), c = number(RC_TYPES), d = some_right();
         break;
+    case RC_CALL_SET_PROGRAM_ROLES: a = some_file(row), b = some_value(), c = some_value(); break;
     default: break;
     }
     return (struct call){kind, caller, a, b, c, d};

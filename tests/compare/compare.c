@@ -2,6 +2,7 @@
    examples by hand, then on many random tables and calls from fixed seeds, then on every amount of head. After every call
    all words and the answer must be the same, and every answer that a kind of call can give must have come. Nights of calls
    are made as batches and one by one. Kept values are damaged in every way, and refreshed from directories at every depth.
+   Program roles are held against what each of the two values asks for alone.
    compare          everything; the last line is "compare: ok", and the status 0, exactly when all is well
    compare SCALE    the same, with so many times the random cases */
 #include "batch.h"
@@ -9,6 +10,7 @@
 #include "claims.h"
 #include "kept.h"
 #include "marked.h"
+#include "programs.h"
 #include "random.h"
 #include "rows.h"
 #include "setpoints.h"
@@ -77,7 +79,7 @@ static void single_calls(void)
 {
     random_row(row, HALF, HALF);
     for (int i = 0; i < 2; i++)
-        for (uint32_t kind = 0; kind <= RC_CALL_REMOVE_RIGHT; kind++) {
+        for (uint32_t kind = 0; kind <= RC_CALL_LAST; kind++) {
             twin_load(row);
             random_call(kind);
         }
@@ -146,7 +148,7 @@ static void several_words(void)
             damage(row, below(RC_RIGHTS_AT));
     if (percent(50))
         fill_kept(row);
-    for (uint32_t kind = 0; kind <= RC_CALL_REMOVE_RIGHT; kind++) {
+    for (uint32_t kind = 0; kind <= RC_CALL_LAST; kind++) {
         twin_load(row);
         random_call(kind);
     }
@@ -178,7 +180,7 @@ static void wrong_lengths(void)
         twin_lend(lengths[i]);
         twin_fresh();
         ask_everything();
-        random_call(below(RC_CALL_REMOVE_RIGHT + 1));
+        random_call(below(RC_CALL_LAST + 1));
     }
 }
 
@@ -198,6 +200,7 @@ static const struct {
     {"nights", night_case, 600},
     {"damaged kept values", kept_values, 100},
     {"refreshes", refresh_case, 400},
+    {"program roles", program_case, 400},
 };
 
 #define PARTS (sizeof parts / sizeof parts[0])
@@ -224,7 +227,7 @@ int main(int argc, char **argv)
 {
     uint64_t scale = argc > 1 ? strtoull(argv[1], NULL, 10) : 1;
     bool ok = marked_examples();
-    printf("marked examples, readings, full tables, setpoints, a night, kept values: %s\n",
+    printf("marked examples, readings, full tables, setpoints, a night, kept values, program roles: %s\n",
            ok ? "as the documents say" : "NOT as the documents say");
     for (size_t i = 0; i < PARTS; i++)
         printf("%s: seeds %" PRIu64 " to %" PRIu64 "\n", parts[i].name, first_seed(i),
@@ -238,6 +241,7 @@ int main(int argc, char **argv)
     ok &= setpoint_report();
     ok &= night_report();
     ok &= kept_report();
+    ok &= program_report();
     ok &= twin_report();
     printf("compare: %s\n", ok ? "ok" : "FAILED");
     return ok ? 0 : 1;

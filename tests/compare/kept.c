@@ -122,6 +122,7 @@ enum {
     MOVED_OTHERS,
     MOVED_ITSELF,
     MOVED_NOTHING,
+    BOTH_MOVED_OTHERS,
     STOPPED,
     INHERITS_AGAIN,
     OF_A_FILE,
@@ -135,6 +136,7 @@ static const char *const refresh_name[REFRESHES] = {
     [MOVED_OTHERS] = "moved other places",
     [MOVED_ITSELF] = "its own alone",
     [MOVED_NOTHING] = "nothing",
+    [BOTH_MOVED_OTHERS] = "initial and forced moved others",
     [STOPPED] = "stopped by an own value",
     [INHERITS_AGAIN] = "set to inherit parent",
     [OF_A_FILE] = "of a FILE",
@@ -165,7 +167,8 @@ static uint32_t levels_before(uint32_t place, uint32_t set)
     return levels;
 }
 
-static void count_refresh(uint32_t set, uint32_t which)
+/* Whether other places moved. */
+static bool count_refresh(uint32_t set, uint32_t which)
 {
     const uint32_t *f = file_at(after, set);
     uint32_t others = 0, most = 0;
@@ -194,6 +197,7 @@ static void count_refresh(uint32_t set, uint32_t which)
         depth_hits[f[RC_FILE_DEPTH]]++;
         value_hits[which]++;
     }
+    return others != 0;
 }
 
 /* An object at this depth, mostly a DIR; RC_FILES if there is none. */
@@ -217,40 +221,48 @@ static uint32_t special_value(uint32_t which)
     }
 }
 
-/* Most are plain; some inherit again, some are what counts already, some are special. */
-static uint32_t some_value(uint32_t kept, uint32_t which)
+/* Most are plain; some inherit again, some are what counts already, some stay as they are, some are special. */
+static uint32_t some_value(uint32_t place, uint32_t which)
 {
-    switch (below(6)) {
+    switch (below(7)) {
     case 0: return RC_INHERIT_PARENT;
-    case 1: return kept;
-    case 2: return special_value(which);
+    case 1: return kept_at(before, place)[which];
+    case 2: return file_at(before, place)[OWN(which)];
+    case 3: return special_value(which);
     default: return below(32);
     }
 }
 
-static uint32_t set_value(uint32_t caller, uint32_t place, uint32_t which, uint32_t value)
+static uint32_t set_type(uint32_t caller, uint32_t place)
 {
-    if (which == RC_KEPT_TYPE)
-        return twin_call(RC_CALL_SET_TYPE, caller, RC_GROUP_FILESYSTEM, place, value, 0).number;
-    uint32_t kind = which == RC_KEPT_INITIAL ? RC_CALL_SET_INITIAL : RC_CALL_SET_FORCED;
-    return twin_call(kind, caller, place, value, 0, 0).number;
+    uint32_t type = some_value(place, RC_KEPT_TYPE);
+    return twin_call(RC_CALL_SET_TYPE, caller, RC_GROUP_FILESYSTEM, place, type, 0).number;
 }
 
-/* Sets one value, and holds what is kept afterwards against the files. */
-static void refresh(uint32_t depth, uint32_t which)
+static uint32_t set_program_roles(uint32_t caller, uint32_t place)
+{
+    uint32_t initial = some_value(place, RC_KEPT_INITIAL), forced = some_value(place, RC_KEPT_FORCED);
+    return twin_call(RC_CALL_SET_PROGRAM_ROLES, caller, place, initial, forced, 0).number;
+}
+
+/* Sets the type, or the two other values at once (W-207), and holds what is kept afterwards against the files. */
+static void refresh(uint32_t depth, bool type)
 {
     memcpy(before, twin_row(), sizeof before);
     uint32_t place = some_place_at(depth), caller = percent(70) ? 0 : some_process(before);
     if (place == RC_FILES)
         return;
-    uint32_t value = some_value(kept_at(before, place)[which], which);
-    if (set_value(caller, place, which, value) != RC_GRANTED)
+    if ((type ? set_type(caller, place) : set_program_roles(caller, place)) != RC_GRANTED)
         return;
     memcpy(after, twin_row(), sizeof after);
     fill_kept(after);
     if (memcmp(after, twin_row(), sizeof after) != 0)
         twin_differs("the kept values are not those that the files ask for");
-    count_refresh(place, which);
+    if (type)
+        count_refresh(place, RC_KEPT_TYPE);
+    else
+        refresh_hits[BOTH_MOVED_OTHERS] +=
+            count_refresh(place, RC_KEPT_INITIAL) & count_refresh(place, RC_KEPT_FORCED);
 }
 
 void refresh_case(void)
@@ -261,7 +273,7 @@ void refresh_case(void)
     twin_load(row);
     for (int i = 0; i < 60; i++) {
         uint32_t depth = below(RC_DEPTH_MOST + 1);
-        refresh(depth, below(VALUES));
+        refresh(depth, below(VALUES) == RC_KEPT_TYPE);
     }
 }
 

@@ -1,5 +1,6 @@
 #include "marked.h"
 #include "../plain/monitor.h"
+#include "calls.h"
 #include "rows.h"
 #include <inttypes.h>
 #include <stdio.h>
@@ -297,8 +298,13 @@ static const struct {
     {{RC_CALL_EXIT, 1, 1}, 2, 0},
     {{RC_CALL_EXIT, RC_PROCESSES}, 2, 0},
     {{RC_CALL_EXIT, 3, [LAST] = 128}, 2, 0}, /* though the caller is dead too */
-    {{RC_CALL_REMOVE_RIGHT + 1, 3}, 2, 0},
+    {{RC_CALL_LAST + 1, 3}, 2, 0},
     {{0}, 2, 0},
+    {{GONE_SET_INITIAL, 0, 0, 5}, 2, 0},
+    {{GONE_SET_FORCED, 0, 0, 5}, 2, 0},
+    {{GONE_SET_FORCED, 3, 0, 5}, 2, 0}, /* though the caller is dead too */
+    {{RC_CALL_SET_PROGRAM_ROLES, 0, 0, 5, 6, 1}, 2, 0},
+    {{RC_CALL_SET_PROGRAM_ROLES, 0, 0, 5, 6}, 0, 0},
     {{RC_CALL_EXIT, 3}, 3, 0},
     {{RC_CALL_DELETE, 0, 255}, 4, 0},
     {{RC_CALL_DELETE, 0, 0}, 5, 0},
@@ -362,24 +368,24 @@ static void make_four(void)
 static void refreshes(void)
 {
     make_four();
-    expect("kept", "number", call(RC_CALL_SET_FORCED, 2, 9, 0, 0), 0);
+    expect("kept", "number", call(RC_CALL_SET_PROGRAM_ROLES, 2, RC_INHERIT_PARENT, 9, 0), 0);
     keeps(1, 0, RC_USE_FORCED_ROLE, RC_UP_MIXED);
     keeps(2, 0, RC_USE_FORCED_ROLE, 9);
     keeps(3, 0, RC_USE_FORCED_ROLE, 9);
-    expect("kept", "number", call(RC_CALL_SET_FORCED, 1, RC_INHERIT_USER, 0, 0), 0);
+    expect("kept", "number", call(RC_CALL_SET_PROGRAM_ROLES, 1, RC_INHERIT_PARENT, RC_INHERIT_USER, 0), 0);
     keeps(1, 0, RC_USE_FORCED_ROLE, RC_INHERIT_USER);
     keeps(3, 0, RC_USE_FORCED_ROLE, 9); /* 2 has a value of its own */
     keeps(4, 6, RC_USE_FORCED_ROLE, RC_INHERIT_USER);
-    expect("kept", "number", call(RC_CALL_SET_INITIAL, 0, 7, 0, 0), 0);
+    expect("kept", "number", call(RC_CALL_SET_PROGRAM_ROLES, 0, 7, RC_INHERIT_PARENT, 0), 0);
     expect("kept", "number", call(RC_CALL_SET_TYPE, RC_GROUP_FILESYSTEM, 0, 5, 0), 0);
     keeps(0, 5, 7, RC_UP_MIXED);
     keeps(3, 5, 7, 9);
     keeps(4, 6, 7, RC_INHERIT_USER);
-    expect("kept", "number", call(RC_CALL_SET_FORCED, 2, RC_INHERIT_PARENT, 0, 0), 0);
+    expect("kept", "number", call(RC_CALL_SET_PROGRAM_ROLES, 2, RC_INHERIT_PARENT, RC_INHERIT_PARENT, 0), 0);
     keeps(3, 5, 7, RC_INHERIT_USER);
     expect("kept", "parents climbed", m->forced(row, RC_WORDS, 3).climbed, 2);
     expect("kept", "place", m->forced(row, RC_WORDS, 3).place, 1);
-    expect("kept", "number", call(RC_CALL_SET_INITIAL, 3, RC_USE_FORCED_ROLE, 0, 0), 0);
+    expect("kept", "number", call(RC_CALL_SET_PROGRAM_ROLES, 3, RC_USE_FORCED_ROLE, RC_INHERIT_PARENT, 0), 0);
     keeps(3, 5, RC_USE_FORCED_ROLE, RC_INHERIT_USER);
     keeps(2, 5, 7, RC_INHERIT_USER);
 }
@@ -398,6 +404,87 @@ static void kept_wrongly(void)
     expect("kept", "number for a row without kept values", m->fresh(row, WITHOUT_KEPT).number, 1);
 }
 
+/* ---- Program roles ---- W-207; the four files again, of which the first three have type 0 */
+
+#define ASSIGNER 1u /* a process in role 3, which has MODIFY_ATTRIBUTE to type 0, and may assign roles 5 and 6 */
+
+/* Sets both values of a file; with a refusal all tables are as before. */
+static void sets(uint32_t caller, uint32_t file, uint32_t initial, uint32_t forced, uint32_t number)
+{
+    static uint32_t before[RC_WORDS];
+    memcpy(before, row, sizeof row);
+    struct rc_answer answer = m->call(row, RC_WORDS, RC_CALL_SET_PROGRAM_ROLES, caller, file, initial, forced, 0);
+    expect("program roles", "number", answer.number, number);
+    expect("program roles", "place", answer.place, 0);
+    if (number != RC_GRANTED) {
+        expect("program roles", "change with a refusal", memcmp(before, row, sizeof row) != 0, 0);
+        return;
+    }
+    expect("program roles", "initial", file_at(row, file)[RC_FILE_INITIAL], initial);
+    expect("program roles", "forced", file_at(row, file)[RC_FILE_FORCED], forced);
+}
+
+static void make_assigner(void)
+{
+    make_four();
+    call(RC_CALL_ADD_RIGHT, RC_GROUP_PROCESS, 0, 0, RC_RIGHT_CLONE);
+    expect("program roles", "clone", call(RC_CALL_CLONE, 0, 0, 0, 0), 0);
+    process_at(row, ASSIGNER)[RC_PROCESS_ROLE] = 3;
+    role_at(row, 3)[RC_ROLE_ASSIGN] = BIT(5) | BIT(6);
+    add_right(RC_GROUP_FILESYSTEM, 3, 0, RC_RIGHT_MODIFY_ATTRIBUTE);
+}
+
+static void program_roles_granted(void)
+{
+    make_assigner();
+    sets(0, 1, 7, RC_INHERIT_USER, 0);
+    keeps(1, 0, 7, RC_INHERIT_USER);
+    keeps(3, 0, 7, RC_INHERIT_USER); /* both reach what inherits, through 2 */
+    keeps(4, 6, 7, RC_INHERIT_USER);
+    sets(ASSIGNER, 2, 5, 6, 0);
+    keeps(2, 0, 5, 6);
+    keeps(3, 0, 5, 6);
+    keeps(4, 6, 7, RC_INHERIT_USER);
+    sets(ASSIGNER, 3, 6, 6, 0);
+    sets(0, 3, RC_USE_FORCED_ROLE, RC_INHERIT_PARENT, 0);
+    keeps(3, 0, RC_USE_FORCED_ROLE, 6);
+    sets(0, 2, RC_INHERIT_PARENT, RC_INHERIT_PARENT, 0);
+    keeps(2, 0, 7, RC_INHERIT_USER);
+    keeps(3, 0, RC_USE_FORCED_ROLE, RC_INHERIT_USER);
+}
+
+static void program_roles_refused(void)
+{
+    make_assigner();
+    sets(0, 3, 5, RC_USE_FORCED_ROLE, 2);
+    sets(0, 3, RC_INHERIT_USER, 6, 2);
+    sets(ASSIGNER, 3, 7, RC_USE_FORCED_ROLE, 2); /* 2 for one value, though the other is 5 */
+    sets(ASSIGNER, 3, RC_UP_MIXED, 7, 2);
+    sets(2, 3, 5, RC_USE_FORCED_ROLE, 2); /* though the caller is dead too */
+    sets(0, RC_FILES, 5, 6, 2);
+    sets(2, 3, 5, 6, 3);
+    sets(0, 5, 5, 6, 4);
+    sets(ASSIGNER, 5, 7, 7, 4);
+    sets(ASSIGNER, 3, 5, 7, 5); /* one of the two alone would do */
+    sets(ASSIGNER, 3, 7, 6, 5);
+    sets(ASSIGNER, 3, RC_USE_FORCED_ROLE, 6, 5); /* a special value is Role Admin's, also one that is there (H7) */
+    sets(ASSIGNER, 3, 5, RC_INHERIT_PARENT, 5);
+    sets(ASSIGNER, 4, 5, 6, 5); /* no MODIFY_ATTRIBUTE to type 6 */
+}
+
+/* The kinds that set one value each are unknown, and the new one takes three numbers. */
+static void program_roles_unknown(void)
+{
+    make_assigner();
+    expect("program roles", "number of kind 14", call(GONE_SET_INITIAL, 3, 5, 0, 0), 2);
+    expect("program roles", "number of kind 15", call(GONE_SET_FORCED, 3, 5, 0, 0), 2);
+    expect("program roles", "number with a fourth", call(RC_CALL_SET_PROGRAM_ROLES, 3, 5, 6, 1), 2);
+    expect("program roles", "number of the next kind", call(RC_CALL_LAST + 1, 3, 5, 6, 0), 2);
+    kept_at(row, 3)[RC_KEPT_INITIAL] = 6;
+    expect("program roles", "number of kind 14, ill formed", call(GONE_SET_INITIAL, 3, 5, 0, 0), 1);
+    expect("program roles", "number, ill formed", call(RC_CALL_SET_PROGRAM_ROLES, 3, 5, RC_USE_FORCED_ROLE, 0), 1);
+}
+
 bool marked_examples(void)
 {
     good = true;
@@ -413,6 +500,9 @@ bool marked_examples(void)
         night();
         refreshes();
         kept_wrongly();
+        program_roles_granted();
+        program_roles_refused();
+        program_roles_unknown();
     }
     return good;
 }

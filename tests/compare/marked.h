@@ -1,5 +1,5 @@
-/* The marked examples of the scope document by hand, and the setpoints, a night and kept values of the change requests, on
-   the library and on the plain version. */
+/* The marked examples of the scope document by hand, and the setpoints, a night, kept values and program roles of the
+   change requests, on the library and on the plain version. */
 #ifndef COMPARE_MARKED_H
 #define COMPARE_MARKED_H
 

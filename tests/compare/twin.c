@@ -20,11 +20,11 @@ static uint64_t calls;
 
 /* ---- How often each answer came ---- */
 
-enum { FRESH = RC_CALL_REMOVE_RIGHT + 1, WELL_FORMED, TYPE, INITIAL, FORCED, KIND, CLAIM, BATCH, IN_METRES,
+enum { FRESH = RC_CALL_LAST + 1, WELL_FORMED, TYPE, INITIAL, FORCED, KIND, CLAIM, BATCH, IN_METRES,
        IN_KILOPASCALS, IN_OTHER_UNIT, LINES };
 
-/* The calls by kind, 0 for all unknown ones; then the other functions, setpoints by their unit. The digits are the answers
-   that can occur. */
+/* The calls by kind, those that are gone too, 0 for all other unknown ones; then the other functions, setpoints by their
+   unit. The digits are the answers that can occur. */
 static const struct {
     const char *name, *answers;
 } line[LINES] = {
@@ -42,14 +42,15 @@ static const struct {
     {"add role", "01235"},
     {"remove role", "01235"},
     {"set user's role", "01235"},
-    {"set initial", "012345"},
-    {"set forced", "012345"},
+    {"gone: set initial", "12"},
+    {"gone: set forced", "12"},
     {"set process forced", "012345"},
     {"set default type", "01235"},
     {"set Role Admin", "01235"},
     {"set type", "012345"},
     {"add right", "01235"},
     {"remove right", "01235"},
+    {"set program roles", "012345"},
     {"fresh", "01"},
     {"well formed (1 yes)", "01"},
     {"effective type", "0124"},
@@ -252,7 +253,7 @@ struct rc_answer twin_call(uint32_t kind, uint32_t caller, uint32_t a, uint32_t 
 {
     struct rc_answer l = rc_call(library.row, lent, kind, caller, a, b, c, d);
     struct rc_answer p = plain_call(plain.row, lent, kind, caller, a, b, c, d);
-    int which = kind <= RC_CALL_REMOVE_RIGHT ? (int)kind : 0;
+    int which = kind <= RC_CALL_LAST ? (int)kind : 0;
     uint32_t numbers[] = {kind, caller, a, b, c, d}, ls[] = {l.number, l.place}, ps[] = {p.number, p.place};
     compare(line[which].name, numbers, 6, ls, ps, 2);
     hit(which, p.number);

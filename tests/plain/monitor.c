@@ -56,14 +56,13 @@ static bool in_range(uint32_t kind, uint32_t a, uint32_t b, uint32_t c, uint32_t
     case RC_CALL_ADD_ROLE:
     case RC_CALL_REMOVE_ROLE: return a <= RC_SET_ASSIGN && b < RC_ROLES && c < RC_ROLES && d == 0;
     case RC_CALL_SET_USER_ROLE: return a < RC_USERS && b < RC_ROLES && (c | d) == 0;
-    case RC_CALL_SET_INITIAL: return a < RC_FILES && is_initial(b) && (c | d) == 0;
-    case RC_CALL_SET_FORCED: return a < RC_FILES && is_forced(b) && (c | d) == 0;
     case RC_CALL_SET_PROCESS_FORCED: return a < RC_PROCESSES && is_process_forced(b) && (c | d) == 0;
     case RC_CALL_SET_DEFAULT_TYPE: return b < RC_ROLES && default_in_range(a, c) && d == 0;
     case RC_CALL_SET_ROLE_ADMIN: return a < RC_ROLES && b <= 1 && (c | d) == 0;
     case RC_CALL_SET_TYPE: return object_in_range(a, b) && type_in_range(a, c) && d == 0;
     case RC_CALL_ADD_RIGHT:
     case RC_CALL_REMOVE_RIGHT: return a < RC_GROUPS && b < RC_ROLES && c < RC_TYPES && d < RC_RIGHTS;
+    case RC_CALL_SET_PROGRAM_ROLES: return a < RC_FILES && is_initial(b) && is_forced(c) && d == 0;
     default: return false;
     }
 }
@@ -289,24 +288,18 @@ static bool may_assign_role(const struct tables *t, const struct process *p, uin
            has_right(t, group, p->role, type_of(t, group, object), RC_RIGHT_MODIFY_ATTRIBUTE);
 }
 
-static struct rc_answer set_initial(struct tables *t, const struct process *p, uint32_t file, uint32_t value)
+/* W-207: rule 27 for the initial value, rule 28 for the forced one, and both are set or neither. */
+static struct rc_answer set_program_roles(struct tables *t, const struct process *p, uint32_t file, uint32_t initial,
+                                          uint32_t forced)
 {
     if (t->file[file].kind == RC_FREE)
         return refuse(RC_NO_SUCH_PLACE);
-    if (!may_assign_role(t, p, RC_GROUP_FILESYSTEM, file, value))
+    if (!may_assign_role(t, p, RC_GROUP_FILESYSTEM, file, initial))
         return refuse(RC_NOT_ALLOWED);
-    t->file[file].initial = value;
-    keep_all(t);
-    return grant(0);
-}
-
-static struct rc_answer set_forced(struct tables *t, const struct process *p, uint32_t file, uint32_t value)
-{
-    if (t->file[file].kind == RC_FREE)
-        return refuse(RC_NO_SUCH_PLACE);
-    if (!may_assign_role(t, p, RC_GROUP_FILESYSTEM, file, value))
+    if (!may_assign_role(t, p, RC_GROUP_FILESYSTEM, file, forced))
         return refuse(RC_NOT_ALLOWED);
-    t->file[file].forced = value;
+    t->file[file].initial = initial;
+    t->file[file].forced = forced;
     keep_all(t);
     return grant(0);
 }
@@ -413,14 +406,13 @@ struct rc_answer plain_act(uint32_t *tables, uint32_t kind, uint32_t caller, uin
     case RC_CALL_ADD_ROLE: return change_set(t, own, a, b, c, true);
     case RC_CALL_REMOVE_ROLE: return change_set(t, own, a, b, c, false);
     case RC_CALL_SET_USER_ROLE: return set_user_role(t, own, a, b);
-    case RC_CALL_SET_INITIAL: return set_initial(t, p, a, b);
-    case RC_CALL_SET_FORCED: return set_forced(t, p, a, b);
     case RC_CALL_SET_PROCESS_FORCED: return set_process_forced(t, p, a, b);
     case RC_CALL_SET_DEFAULT_TYPE: return set_default_type(t, own, a, b, c);
     case RC_CALL_SET_ROLE_ADMIN: return set_role_admin(t, own, a, b);
     case RC_CALL_SET_TYPE: return set_type(t, p, a, b, c);
     case RC_CALL_ADD_RIGHT: return change_right(t, p, a, b, c, d, true);
-    default: return change_right(t, p, a, b, c, d, false);
+    case RC_CALL_REMOVE_RIGHT: return change_right(t, p, a, b, c, d, false);
+    default: return set_program_roles(t, p, a, b, c);
     }
 }
 

@@ -14,8 +14,9 @@ use Rattle.model.specs.WellFormed.{wellFormed}
 use Rattle.model.specs.Words.{block, put}
 use Rattle.model.proofs.FreshFormed.{fresh-formed}
 use Rattle.marked.proofs.Computing.{acting, step-acting}
-use Rattle.kinds.specs.declared.Decoded.{Decoded}
-use Rattle.kinds.specs.Kinds.{CALL-ACCESS, CALL-ADD-RIGHT, CALL-CLONE, CALL-EXIT, decodeOf, takes, written}
+use Rattle.decoding.specs.declared.Decoded.{Decoded}
+use Rattle.decoding.specs.Kinds.{CALL-ACCESS, CALL-ADD-RIGHT, CALL-CLONE, CALL-EXIT, takes, decodeOf}
+use Rattle.kinds.specs.ByKind.{written}
 use Rattle.kinds.proofs.ByKind.{done-written}
 use Rattle.batch.specs.declared.items.Item.{Item}
 use Rattle.batch.specs.Items.{ITEM-BYTES, callIn, itemOf, made, padded}
@@ -68,8 +69,8 @@ after-ran t q s (suc k) w =
 abbrev sent : List ℕ → List ℕ
 sent b = take ITEM-BYTES (b ++ replicate ITEM-BYTES 0)
 
--- process 0 reads the root, and gives two rights; clones, the clone exits, and its place is taken again; an unknown kind, a clone with a byte too
--- many, a dead caller, a caller that is no process, and an exit of process 0
+-- process 0 reads the root, and gives two rights; clones, the clone exits, and its place is taken again; a kind that is unknown since W-207, a clone with
+-- a byte too many, a dead caller, a caller that is no process, and an exit of process 0
 pub night : List ℕ
 night =
     sent (CALL-ACCESS ∷ 0 ∷ FILESYSTEM ∷ 0 ∷ READ ∷ [])
@@ -78,7 +79,7 @@ night =
     ++ sent (CALL-CLONE ∷ 0 ∷ [])
     ++ sent (CALL-EXIT ∷ 1 ∷ [])
     ++ sent (CALL-CLONE ∷ 0 ∷ [])
-    ++ sent (22 ∷ 0 ∷ [])
+    ++ sent (14 ∷ 0 ∷ 0 ∷ 7 ∷ [])
     ++ sent (CALL-CLONE ∷ 0 ∷ replicate 13 0 ++ 1 ∷ [])
     ++ sent (CALL-CLONE ∷ 2 ∷ [])
     ++ sent (CALL-CLONE ∷ 64 ∷ [])

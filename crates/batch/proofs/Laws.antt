@@ -19,8 +19,8 @@ use Rattle.model.specs.Words.{put}
 use Rattle.model.proofs.Decided.{decided, eqb-iff, neb-iff, tested}
 use Rattle.model.proofs.Kept.{step-kept}
 use Rattle.promises.proofs.Changes.{every-answer-fits-two-bytes}
-use Rattle.kinds.specs.declared.Decoded.{Decoded}
-use Rattle.kinds.specs.Kinds.{actByKind, stepByKind, written}
+use Rattle.decoding.specs.declared.Decoded.{Decoded}
+use Rattle.kinds.specs.ByKind.{actByKind, stepByKind, written}
 use Rattle.kinds.proofs.ByKind.{done-written, on-well-formed-tables-act-by-kind-is-step-by-kind, written-ill}
 use Rattle.batch.specs.declared.items.Item.{Item}
 use Rattle.batch.specs.Items.{callIn, made}

@@ -12,8 +12,8 @@ use Rattle.model.specs.WellFormed.{wellFormed}
 use Rattle.model.specs.Words.{_!_, put}
 use Rattle.model.proofs.Words.{put-length, word-put-other, word-set-other, word-set-same}
 use Rattle.promises.proofs.Changes.{a-refused-call-changes-nothing}
-use Rattle.kinds.specs.declared.Decoded.{Decoded}
-use Rattle.kinds.specs.Kinds.{stepByKind, written}
+use Rattle.decoding.specs.declared.Decoded.{Decoded}
+use Rattle.kinds.specs.ByKind.{stepByKind, written}
 use Rattle.kinds.proofs.ByKind.{done-written, written-ill}
 use Rattle.batch.specs.Items.{callIn, made}
 use Rattle.batch.specs.Batch.{ANSWER-BYTES, answerTo, answersAfter, itemAt, items, tablesAfter}

@@ -6,8 +6,8 @@ use mathlib.Core.List.{List, [], _∷_, _++_}
 use mathlib.Core.Path.{_∙_, _≡_, ap, refl, sym}
 use Rattle.model.specs.WellFormed.{wellFormed}
 use Rattle.model.specs.Runs.{Event, after, happens}
-use Rattle.kinds.specs.declared.Decoded.{Decoded}
-use Rattle.kinds.specs.Kinds.{written}
+use Rattle.decoding.specs.declared.Decoded.{Decoded}
+use Rattle.kinds.specs.ByKind.{written}
 use Rattle.batch.specs.declared.items.Item.{Item}
 use Rattle.batch.specs.Items.{callIn, made}
 use Rattle.batch.specs.Batch.{itemAt, items, tablesAfter}

@@ -7,8 +7,9 @@ use lib.Dec.{eqb, ltb}
 use Rattle.sets.specs.Below.{allBelow}
 use Rattle.model.specs.Outcome.{Outcome}
 use Rattle.model.specs.Words.{_!_, block}
-use Rattle.kinds.specs.Kinds.{NUMBERS, decodeOf, written}
-use Rattle.kinds.specs.declared.Decoded.{Decoded}
+use Rattle.decoding.specs.Kinds.{NUMBERS, decodeOf}
+use Rattle.kinds.specs.ByKind.{written}
+use Rattle.decoding.specs.declared.Decoded.{Decoded}
 use Rattle.batch.specs.declared.items.Item.{Item}
 
 abbrev pub ITEM-BYTES : ℕ

@@ -11,8 +11,8 @@ use Rattle.model.specs.WellFormed.{wellFormed}
 use Rattle.model.specs.Words.{_!_}
 use Rattle.model.specs.Runs.{Event, after, asks}
 use Rattle.promises.specs.Tests.{FirstFails, Hold, Test, _ifNot_}
-use Rattle.kinds.specs.Kinds.{stepByKind}
-use Rattle.kinds.specs.declared.Decoded.{Decoded}
+use Rattle.kinds.specs.ByKind.{stepByKind}
+use Rattle.decoding.specs.declared.Decoded.{Decoded}
 use Rattle.batch.specs.declared.items.Item.{Item}
 use Rattle.batch.specs.Items.{callIn, made}
 use Rattle.batch.specs.Batch.{ANSWER-BYTES, answerTo, batch, batched, itemAt, items, roomy, tablesAfter, whole}

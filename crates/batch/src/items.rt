@@ -1,7 +1,7 @@
 // What was sent: items of sixteen bytes, each by value.
 ghost use mathlib.Core.Path.{_≡_};
 ghost use Rattle.model.specs.Words.{_!_, block};
-ghost use Rattle.kinds.specs.Kinds.{NUMBERS};
+ghost use Rattle.decoding.specs.Kinds.{NUMBERS};
 ghost use Rattle.batch.specs.Items.{NUMBERS-AT, padded as paddedOf, itemOf};
 ghost use Rattle.batch.specs.Batch.{items};
 

@@ -20,7 +20,7 @@ ghost use lib.ListN.{length};
 ghost use Rattle.model.specs.Outcome.{outcome, refusing};
 ghost use Rattle.model.specs.WellFormed.{wellFormed};
 ghost use Rattle.model.specs.Words.{put};
-ghost use Rattle.kinds.specs.Kinds.{actByKind};
+ghost use Rattle.kinds.specs.ByKind.{actByKind};
 ghost use Rattle.batch.specs.Batch.{ANSWER-BYTES, items as itemsOf, itemAt, tablesAfter, answersAfter, batchNo, batched, batch as batchOf};
 
 mod items;

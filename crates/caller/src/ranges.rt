@@ -46,8 +46,11 @@ fn ranged_change(change: Change) -> bool
         Change::AddRole { set, role, member } => ranged_member(set, role, member),
         Change::RemoveRole { set, role, member } => ranged_member(set, role, member),
         Change::SetUserRole { user, role } => (user < USERS) & (role < ROLES),
-        Change::SetInitial { file, value } => (file < FILES) & ok_initial(value),
-        Change::SetForced { file, value } => (file < FILES) & ok_forced(value),
+        Change::SetProgramRoles {
+            file,
+            initial,
+            forced,
+        } => (file < FILES) & ok_initial(initial) & ok_forced(forced),
         Change::SetProcessForced { process, value } => (process < PROCESSES)
             & ok_process_forced(value),
         Change::SetDefaultType { which, role, value } => (which < DEFAULT_TYPES)

@@ -1,11 +1,10 @@
 -- The parts that the checker tests make up the rules again: what all roles create, and what S reaches, is one set for all files; a set that was
 -- found closed is closed at the next place too, and values that were found last add nothing.
 -- Assumes nothing.
-use Prim.Native.Nat.{ℕ, zero, suc, _+_}
+use Prim.Native.Nat.{ℕ, zero, suc}
 use mathlib.Core.Path.{_≡_, refl, sym, _∙_}
 use mathlib.Core.Bool.{Bool, true, false, true≢false, cond, not, _&&_, _||_, and-assoc, or-assoc, or-false, and-true}
 use mathlib.Core.List.{List}
-use native.Mathlib.Numerals.{add-one}
 use native.Mathlib.Omega.{arith}
 use borrow.Author.Tests.{eqb-true, eq-eqb, ne-eqb}
 use lib.Dec.{eqb}
@@ -19,7 +18,7 @@ use Rattle.model.specs.Numbers.{_unless_, _▹_, FILESYSTEM, PROCESS, FILES, FR
 use Rattle.model.specs.Layout.{KIND, KEPT-INITIAL, KEPT-FORCED, rowLength, claimLength}
 use Rattle.model.specs.Words.{_!_}
 use Rattle.model.specs.Records.{fileWord, keptAt}
-use Rattle.model.specs.Claims.{S, Q, T, plainIn, startable, ownForced, carried, C1, C2, C3, C4, C5, holds, C6, starts, C7, C8, C9, broken, claimNo, verdict}
+use Rattle.model.specs.Claims.{S, Q, T, plainIn, startable, ownForced, carried, C1, C2, C3, C4, C5, holds, starts, C7, C8, C9, broken, claimNo, verdict}
 use Rattle.model.proofs.Records.{by-cond, file-occupied}
 use Rattle.model.proofs.Decided.{tested}
 use Rattle.model.proofs.Formed.{facts}

@@ -1,8 +1,8 @@
 // The library for C: a row of tables is lent to each function as a pointer and a number of words. include/monitor.h is its face.
 use batch::batch;
 use claims::check;
-use formed::build_fresh;
 use formed::well_formed;
+use fresh::build_fresh;
 use kinds::step_by_kind;
 use model::Answer;
 use model::Found;
@@ -20,7 +20,7 @@ ghost use Rattle.model.specs.WellFormed.{wellFormed};
 ghost use Rattle.model.specs.Fresh.{buildFresh};
 ghost use Rattle.model.specs.Queries.{queryType, queryInitial, queryForced, queryKind};
 ghost use Rattle.model.specs.Claims.{check as checkOf};
-ghost use Rattle.kinds.specs.Kinds.{stepByKind};
+ghost use Rattle.kinds.specs.ByKind.{stepByKind};
 ghost use Rattle.setpoints.specs.Setpoints.{enter as enterOf};
 ghost use Rattle.batch.specs.Batch.{batched, batch as batchOf};
 

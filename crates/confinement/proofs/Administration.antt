@@ -18,13 +18,13 @@ use Rattle.model.specs.Layout.{KEPT-TYPE, PARENT}
 use Rattle.model.specs.Ranges.{okTypeIn, rangedChange}
 use Rattle.model.specs.Records.{processAt, fileWord, keptAt, roleAt}
 use Rattle.model.specs.Calls.{ownRole, may}
-use Rattle.model.specs.Administration.{passes, mayAssign, mayAdmin, inherited, assignedType, changeSetNo, setUserRoleNo, assignRoleNo, changeRightNo, rightNeeded, rulingOn, roleAdminNo}
+use Rattle.model.specs.Administration.{passes, mayAssign, mayAdmin, inherited, assignedType, changeSetNo, setUserRoleNo, modifyNo, changeRightNo, rightNeeded, rulingOn, roleAdminNo}
 use Rattle.model.specs.Claims.{S}
 use Rattle.model.specs.Runs.{Family}
 use Rattle.model.proofs.Records.{by-cond, by-group}
 use Rattle.model.proofs.KeptValues.{kept-type-range}
 use Rattle.model.proofs.Decided.{tested}
-use Rattle.model.proofs.Granted.{passes-by, assign-role-granted, set-type-granted}
+use Rattle.model.proofs.Granted.{passes-by, modify-granted}
 use Rattle.model.proofs.Formed.{WellFormed, parent-dir, dir-occupied}
 use Rattle.confinement.proofs.Callers.{own-role, own-right, member, member-role}
 use Rattle.confinement.proofs.Claim.{Accepted}
@@ -85,8 +85,8 @@ module _ (t₀ w : List ℕ) (claim : Accepted t₀ w) (t : List ℕ) (F : Famil
   no-change-set : (s r m : ℕ) → passes t c (eqb s COMPATIBLE-ROLES && mayAssign t c m && mayAdmin t c r) ≡ true → ⊥
   no-change-set s r m e = let x = simp tested at (by-rule _ e) in no-admin r (x .1)
 
-  no-assign-role : (g o v : ℕ) → assignRoleNo t c g o v ≡ 0 → ⊥
-  no-assign-role g o v e = let x = simp tested at (by-rule _ (assign-role-granted t c g o v .0 e .passed)) in no-assign v (x .0)
+  no-modify : (g o : ℕ) (rule : Bool) → (rule ≡ true → ⊥) → modifyNo t c g o rule ≡ 0 → ⊥
+  no-modify g o rule n e = let x = simp tested at (by-rule _ (modify-granted t c g o rule .0 e .passed)) in n (x .0)
 
   no-change-right : (g r k right : ℕ) → passes t c (may t c g k (rightNeeded right) && mayAdmin t c r) ≡ true → ⊥
   no-change-right g r k right e = let x = simp tested at (by-rule _ e) in no-admin r (x .1)
@@ -98,14 +98,12 @@ module _ (t₀ w : List ℕ) (claim : Accepted t₀ w) (t : List ℕ) (F : Famil
   no-change (Change.AddRole s r member) l e = no-change-set s r member (simp tested at e)
   no-change (Change.RemoveRole s r member) l e = no-change-set s r member (simp tested at e)
   no-change (Change.SetUserRole u r) l e = let x = simp tested at (by-rule _ (simp tested at e)) in no-assign r (x .0)
-  no-change (Change.SetInitial f v) l e = no-assign-role FILESYSTEM f v e
-  no-change (Change.SetForced f v) l e = no-assign-role FILESYSTEM f v e
-  no-change (Change.SetProcessForced p v) l e = no-assign-role PROCESS p v e
+  no-change (Change.SetProgramRoles f initial forced) l e = no-modify FILESYSTEM f _ (λ both. let x = simp tested at both in no-assign initial (x .0)) e
+  no-change (Change.SetProcessForced p v) l e = no-modify PROCESS p _ (no-assign v) e
   no-change (Change.SetDefaultType which r v) l e = false≢true (by-rule false (simp tested at e))
   no-change (Change.SetRoleAdmin r mark) l e = false≢true (by-rule false (simp tested at e))
   no-change (Change.SetType g o v) l e =
       let h = simp tested at l in
-      let x = simp tested at (by-rule _ (set-type-granted t c g o v .0 e .passed)) in
-      no-assign-to g (assignedType t o v) (h .0 .0) (assigned-plain t (inv .formed) g o v (h .0 .0) (h .0 .1) (h .1)) (x .0)
+      no-modify g o _ (no-assign-to g (assignedType t o v) (h .0 .0) (assigned-plain t (inv .formed) g o v (h .0 .0) (h .0 .1) (h .1))) e
   no-change (Change.AddRight g r k right) l e = no-change-right g r k right (simp tested at e)
   no-change (Change.RemoveRight g r k right) l e = no-change-right g r k right (simp tested at e)

@@ -1,4 +1,4 @@
-// How a call ends that writes one word or one record: a number other than 0 refuses and leaves the row as found; 0 answers a place and writes.
+// How a call ends that writes one word or a run of them: a number other than 0 refuses and leaves the row as found; 0 answers a place and writes.
 use model::Answer;
 use rules::refusal::grant;
 use rules::refusal::refusal;
@@ -20,7 +20,7 @@ pub fn decide_word(t: &mut [u32], number: u32, at: usize, v: u32) -> Answer
     grant(0)
 }
 
-// The words of a record.
+// A run of words, such as a record's.
 pub fn decide_words(t: &mut [u32], number: u32, place: u32, at: usize, vs: &[u32]) -> Answer
     ensures { λ r. ⌜ outcome r (now (t .exit)) ≡ decide (now (t .entry)) number place (put (now (t .entry)) at (now (vs .entry))) ⌝ }
 {

@@ -1,3 +1,2 @@
-pub mod Built
 pub mod Whole
-pub mod Files
+pub mod Exact

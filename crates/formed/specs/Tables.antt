@@ -6,7 +6,7 @@ use Rattle.sets.specs.Below.{allBelow}
 use Rattle.model.specs.Numbers.{FILESYSTEM, PROCESS, PROCESSES, FILES, IPCS, ROLES, USERS, FIRST-PROCESS, ROOT}
 use Rattle.model.specs.Records.{occupied}
 use Rattle.model.specs.WellFormed.{processOk, userOk, roleOk, ipcOk, fileOk}
-use Rattle.formed.specs.Steps.{stepOk}
+use Rattle.fitting.specs.Steps.{stepOk}
 
 unfoldable pub tablesOk : List ℕ → Bool
 tablesOk t =

@@ -1,10 +1,10 @@
 // One walk over each table. Processes and files are tested with branches, and their walks leave at the first that fails; the others carry the
 // verdict along, so that several records are tested at a time.
-use crate::records::file_ok;
-use crate::records::ipc_ok;
-use crate::records::process_ok;
-use crate::records::role_ok;
-use crate::records::user_ok;
+use fitting::file_ok;
+use fitting::ipc_ok;
+use fitting::process_ok;
+use fitting::role_ok;
+use fitting::user_ok;
 use model::numbers::FILES;
 use model::numbers::IPCS;
 use model::numbers::PROCESSES;
@@ -15,7 +15,7 @@ ghost use mathlib.Core.Path.{_≡_};
 ghost use Rattle.sets.specs.Below.{allBelow};
 ghost use Rattle.model.specs.Numbers.{PROCESSES, USERS, ROLES, IPCS, FILES};
 ghost use Rattle.model.specs.WellFormed.{processOk, userOk, roleOk, ipcOk, fileOk};
-ghost use Rattle.formed.specs.Steps.{stepOk};
+ghost use Rattle.fitting.specs.Steps.{stepOk};
 
 pub fn processes_ok(t: &[u32]) -> bool
     ensures { λ r. ⌜ r ≡ allBelow PROCESSES (processOk (now (t .entry))) ⌝ }

@@ -12,8 +12,9 @@ use Rattle.model.specs.WellFormed.{wellFormed}
 use Rattle.model.specs.Step.{step}
 use Rattle.model.proofs.Formed.{facts}
 use Rattle.model.proofs.Kept.{step-act}
-use Rattle.kinds.specs.declared.Decoded.{Decoded}
-use Rattle.kinds.specs.Kinds.{decodeOf, written, done, actByKind, stepByKind}
+use Rattle.decoding.specs.declared.Decoded.{Decoded}
+use Rattle.decoding.specs.Kinds.{decodeOf}
+use Rattle.kinds.specs.ByKind.{written, done, actByKind, stepByKind}
 
 module _ (t : List ℕ) (caller : ℕ) where
   -- on well-formed tables what was written comes to the same without their test

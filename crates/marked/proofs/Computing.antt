@@ -3,18 +3,17 @@
 -- and `answered`, and those are computed. All that they are made of stands on the line of `acting`: to unfold `acting` is to unfold it all.
 -- A run that sets a value of a DIR is rewritten by `setting-values` too, call by call, since the sweeps of such a call are dear.
 -- Assumes nothing.
-use Prim.Native.Nat.{ℕ, _+_, _<_}
-use mathlib.Core.Path.{_≡_, refl, ap}
+use Prim.Native.Nat.{ℕ, _+_}
+use mathlib.Core.Path.{_≡_, refl, ap, _∙_}
 use mathlib.Core.Bool.{true}
 use mathlib.Core.List.{List, [], _∷_, _++_, map}
 use native.Mathlib.Omega.{arith}
-use lib.ListN.{set}
 use Rattle.sets.specs.Below.{allBelow, someBelow, firstBelow}
 use Rattle.sets.specs.Sets.{has, added, removed, inside}
 use Rattle.model.specs.declared.Call.{Call}
 use Rattle.model.specs.declared.Change.{Change}
 use Rattle.model.specs.declared.Answer.{Answer}
-use Rattle.model.specs.Layout.{FILE-TYPE, KEPT-INITIAL, KEPT-FORCED, KEPT-WORDS, fileAddr}
+use Rattle.model.specs.Layout.{INITIAL, KEPT-INITIAL, KEPT-FORCED, fileAddr}
 use Rattle.model.specs.Words.{block, put}
 use Rattle.model.specs.Records.{kindOf, initialOf, forcedOf, processAt, putProcess, putFile, fileWord, keptAt, ipcAt, putIpc, roleAt, userRole, hasRight, occupied, freePlace}
 use Rattle.model.specs.WellFormed.{wellFormed}
@@ -23,7 +22,7 @@ use Rattle.model.specs.Effective.{rootValue}
 use Rattle.model.specs.KeptValues.{typeOf, ownOrParents, settled, unkept, keptAnew, swept, sweeps, revalued}
 use Rattle.model.specs.Transitions.{defaultOr, chownType, cloned, executed, chowned, withRole, created}
 use Rattle.model.specs.Calls.{ownRole, may, accessNo, cloneNo, cloneRow, exitNo, exitRow, executeNo, executeRow, changeOwnerNo, roleUnder, changeOwnerRow, changeRoleNo, changeRoleRow, createNo, createRow, notChild, childless, removable, deleteNo, deleteRow, createIpcNo, createIpcRow, deleteIpcNo, deleteIpcRow}
-use Rattle.model.specs.Administration.{passes, changeSetNo, changeSetRow, setUserRoleNo, setUserRoleRow, assignRoleNo, setInitialRow, setForcedRow, setProcessForcedRow, roleAdminNo, setDefaultTypeRow, setRoleAdminRow, inherited, assignedType, setTypeNo, setTypeRow, changeRightNo, changeRightRow, rulingOn}
+use Rattle.model.specs.Administration.{passes, changeSetNo, changeSetRow, setUserRoleNo, setUserRoleRow, modifyNo, setProgramRolesRow, setProcessForcedRow, roleAdminNo, setDefaultTypeRow, setRoleAdminRow, inherited, assignedType, setTypeRow, changeRightNo, changeRightRow, rulingOn}
 use Rattle.model.specs.Step.{callerNo, ruling, number, act, step}
 use Rattle.model.specs.Claims.{toSome, someRoleTo, startable, carried, C1, assignsNothing, powerless, C2, spares, C3, C4, C5, createsInside, holds, C6, starts, C7, C8, C9, broken}
 use Rattle.model.specs.Runs.{Event, asks, answers, after}
@@ -39,18 +38,20 @@ unfolding
     act decide number callerNo ruling rulingOn
     accessNo cloneNo cloneRow exitNo exitRow executeNo executeRow changeOwnerNo roleUnder changeOwnerRow changeRoleNo changeRoleRow
     createNo createRow notChild childless removable deleteNo deleteRow createIpcNo createIpcRow deleteIpcNo deleteIpcRow
-    passes changeSetNo changeSetRow setUserRoleNo setUserRoleRow assignRoleNo setInitialRow setForcedRow setProcessForcedRow
-    roleAdminNo setDefaultTypeRow setRoleAdminRow inherited assignedType setTypeNo setTypeRow changeRightNo changeRightRow
+    passes changeSetNo changeSetRow setUserRoleNo setUserRoleRow modifyNo setProgramRolesRow setProcessForcedRow
+    roleAdminNo setDefaultTypeRow setRoleAdminRow inherited assignedType setTypeRow changeRightNo changeRightRow
     ownRole may defaultOr chownType cloned executed chowned withRole created
     rootValue typeOf ownOrParents settled unkept keptAnew swept sweeps revalued
     kindOf initialOf forcedOf processAt putProcess putFile fileWord keptAt ipcAt putIpc roleAt userRole hasRight occupied freePlace
     block put allBelow firstBelow has added removed
 acting t c call = act t c call
 
--- a value of a file is set by a change, where that is computed in brief
-unfoldable pub setting : List ℕ → ℕ → Change → ℕ → ℕ → ℕ → Outcome
+-- a program's roles are set, where that is computed in brief
+unfoldable pub setting : List ℕ → ℕ → ℕ → ℕ → ℕ → Outcome
 unfolding acting briefly
-setting t c change k f v = decide t (number t c (Call.Administer change)) 0 (briefly (set t (fileAddr f + (FILE-TYPE + k)) v) k f)
+setting t c f initial forced =
+    decide t (number t c (Call.Administer (Change.SetProgramRoles f initial forced))) 0
+    (briefly (briefly (put t (fileAddr f + INITIAL) (initial ∷ forced ∷ [])) KEPT-INITIAL f) KEPT-FORCED f)
 
 -- the row after a run from tables that are well formed
 unfoldable pub acted : List ℕ → List Event → List ℕ
@@ -112,21 +113,19 @@ pub acted-next : (t : List ℕ) (c : ℕ) (call : Call) (rest : List Event) → 
 unfolding acted
 acted-next t c call rest = refl
 
-module _ (t : List ℕ) (c f v : ℕ) where
-  brief : (n k : ℕ) → k < KEPT-WORDS
-      → decide t n 0 (revalued (set t (fileAddr f + (FILE-TYPE + k)) v) k f) ≡ decide t n 0 (briefly (set t (fileAddr f + (FILE-TYPE + k)) v) k f)
-  brief n k m = ap (λ (u : List ℕ). decide t n 0 u) (revalued-briefly (set t (fileAddr f + (FILE-TYPE + k)) v) k m f)
+both-briefly : (s : List ℕ) (f : ℕ) → revalued (revalued s KEPT-INITIAL f) KEPT-FORCED f ≡ briefly (briefly s KEPT-INITIAL f) KEPT-FORCED f
+both-briefly s f =
+    revalued-briefly (revalued s KEPT-INITIAL f) KEPT-FORCED (omega arith) f
+    ∙ ap (λ (u : List ℕ). briefly u KEPT-FORCED f) (revalued-briefly s KEPT-INITIAL (omega arith) f)
 
-  pub initial-set : acting t c (Call.Administer (Change.SetInitial f v)) ≡ setting t c (Change.SetInitial f v) KEPT-INITIAL f v
-  unfolding setting
-  initial-set = brief (number t c (Call.Administer (Change.SetInitial f v))) KEPT-INITIAL (omega arith)
-
-  pub forced-set : acting t c (Call.Administer (Change.SetForced f v)) ≡ setting t c (Change.SetForced f v) KEPT-FORCED f v
-  unfolding setting
-  forced-set = brief (number t c (Call.Administer (Change.SetForced f v))) KEPT-FORCED (omega arith)
+pub roles-set : (t : List ℕ) (c f initial forced : ℕ) → acting t c (Call.Administer (Change.SetProgramRoles f initial forced)) ≡ setting t c f initial forced
+unfolding setting
+roles-set t c f initial forced =
+    ap (λ (u : List ℕ). decide t (number t c (Call.Administer (Change.SetProgramRoles f initial forced))) 0 u)
+    (both-briefly (put t (fileAddr f + INITIAL) (initial ∷ forced ∷ [])) f)
 
 -- what `computing` leaves of such a run is rewritten by these before it is computed
-pub ruleset setting-values = (acted-on, acted-next, initial-set, forced-set)
+pub ruleset setting-values = (acted-on, acted-next, roles-set)
 
 -- ---- words that the examples use
 

@@ -8,7 +8,7 @@ use mathlib.Core.List.{List, [], _∷_, _++_}
 use lib.ListN.{replicate}
 use Rattle.model.specs.declared.Call.{Call}
 use Rattle.model.specs.declared.Change.{Change}
-use Rattle.model.specs.Numbers.{FILESYSTEM, PROCESS, FILE, COMPATIBLE-ROLES, FILE-CREATE, WRITE, EXECUTE, CREATE, CLONE}
+use Rattle.model.specs.Numbers.{FILESYSTEM, PROCESS, FILE, INHERIT-PARENT, COMPATIBLE-ROLES, FILE-CREATE, WRITE, EXECUTE, CREATE, CLONE}
 use Rattle.model.specs.Records.{processAt}
 use Rattle.model.specs.Fresh.{fresh}
 use Rattle.model.specs.Effective.{climb, effective, valueAt}
@@ -27,7 +27,7 @@ setup =
     ∷ administers 0 (Change.AddRole COMPATIBLE-ROLES 1 2)
     ∷ asks 0 (Call.Create FILE 0)
     ∷ administers 0 (Change.SetType FILESYSTEM 1 3)
-    ∷ administers 0 (Change.SetForced 1 1)
+    ∷ administers 0 (Change.SetProgramRoles 1 INHERIT-PARENT 1)
     ∷ asks 0 (Call.Create FILE 0)
     ∷ administers 0 (Change.SetType FILESYSTEM 2 2)
     ∷ asks 0 Call.Clone
@@ -80,7 +80,7 @@ an-outsider-that-administers-breaks-it = simp computing (unfold acted membersWit
 -- ---- dropped: that C6 counts all 32 roles. The root forces role 5, and role 0, outside S, creates files of the startable type 3
 
 pub trap : List Event
-trap = administers 0 (Change.SetForced 0 5) ∷ administers 0 (Change.SetDefaultType FILE-CREATE 0 3) ∷ []
+trap = administers 0 (Change.SetProgramRoles 0 INHERIT-PARENT 5) ∷ administers 0 (Change.SetDefaultType FILE-CREATE 0 3) ∷ []
 
 abbrev pub trapped : List ℕ
 trapped = after fresh (setup ++ trap)

@@ -3,4 +3,5 @@ pub mod Computing
 pub mod Marked
 pub mod Confined
 pub mod DefaultRoles
+pub mod ProgramRoles
 pub mod Refreshed

@@ -9,7 +9,7 @@ use Rattle.model.specs.declared.Call.{Call}
 use Rattle.model.specs.declared.Change.{Change}
 use Rattle.model.specs.declared.Verdict.{Verdict}
 use Rattle.model.specs.declared.Found.{Found}
-use Rattle.model.specs.Numbers.{FILESYSTEM, PROCESS, FILE, DIR, USE-FORCED-ROLE, INHERIT-USER, UP-MIXED, USE-NEW-ROLE-DEF-CREATE, COMPATIBLE-ROLES, PROCESS-CREATE, PROCESS-EXECUTE, PROCESS-CHOWN, READ, WRITE, EXECUTE, CREATE, CHANGE-OWNER, CLONE}
+use Rattle.model.specs.Numbers.{FILESYSTEM, PROCESS, FILE, DIR, INHERIT-PARENT, USE-FORCED-ROLE, INHERIT-USER, UP-MIXED, USE-NEW-ROLE-DEF-CREATE, COMPATIBLE-ROLES, PROCESS-CREATE, PROCESS-EXECUTE, PROCESS-CHOWN, READ, WRITE, EXECUTE, CREATE, CHANGE-OWNER, CLONE}
 use Rattle.model.specs.Layout.{FILE-TYPE, INITIAL, FORCED}
 use Rattle.model.specs.Records.{forcedWord, processAt}
 use Rattle.model.specs.Fresh.{fresh}
@@ -36,13 +36,11 @@ setup =
     ∷ administers 0 (Change.SetDefaultType PROCESS-CHOWN 0 USE-NEW-ROLE-DEF-CREATE)
     ∷ administers 0 (Change.SetDefaultType PROCESS-CREATE 4 6)
     ∷ asks 0 (Call.Create FILE 0)
-    ∷ administers 0 (Change.SetInitial 1 7)
-    ∷ administers 0 (Change.SetForced 1 UP-MIXED)
+    ∷ administers 0 (Change.SetProgramRoles 1 7 UP-MIXED)
     ∷ asks 0 (Call.Create FILE 0)
-    ∷ administers 0 (Change.SetInitial 2 USE-FORCED-ROLE)
-    ∷ administers 0 (Change.SetForced 2 9)
+    ∷ administers 0 (Change.SetProgramRoles 2 USE-FORCED-ROLE 9)
     ∷ asks 0 (Call.Create FILE 0)
-    ∷ administers 0 (Change.SetForced 3 INHERIT-USER)
+    ∷ administers 0 (Change.SetProgramRoles 3 INHERIT-PARENT INHERIT-USER)
     ∷ asks 0 Call.Clone
     ∷ asks 0 Call.Clone
     ∷ asks 0 Call.Clone
@@ -60,7 +58,7 @@ pub morning : List Event
 morning = asks 2 (Call.ChangeOwner 1) ∷ asks 3 (Call.ChangeOwner 1) ∷ asks 4 (Call.ChangeOwner 2) ∷ []
 
 -- each right needed is held
-pub night-granted : numbers fresh (evening ++ morning) ≡ replicate 34 0
+pub night-granted : numbers fresh (evening ++ morning) ≡ replicate 32 0
 night-granted = simp computing (unfold answered fresh evening morning setup executes in refl)
 
 -- role, type and forced value of a process
@@ -127,8 +125,7 @@ starting =
     ∷ administers 0 (Change.AddRight FILESYSTEM 0 0 EXECUTE)
     ∷ administers 0 (Change.AddRight PROCESS 7 0 CHANGE-OWNER)
     ∷ asks 0 (Call.Create FILE 0)
-    ∷ administers 0 (Change.SetInitial 1 7)
-    ∷ administers 0 (Change.SetForced 1 9)
+    ∷ administers 0 (Change.SetProgramRoles 1 7 9)
     ∷ asks 0 (Call.Execute 1)
     ∷ []
 
@@ -144,9 +141,9 @@ a-forced-value-is-always-copied = simp computing (unfold acted fresh starting ha
 pub inheriting : List Event
 inheriting =
     administers 0 (Change.AddRight FILESYSTEM 0 0 CREATE)
-    ∷ administers 0 (Change.SetForced 0 9)
+    ∷ administers 0 (Change.SetProgramRoles 0 INHERIT-PARENT 9)
     ∷ asks 0 (Call.Create DIR 0)
-    ∷ administers 0 (Change.SetInitial 1 7)
+    ∷ administers 0 (Change.SetProgramRoles 1 7 INHERIT-PARENT)
     ∷ asks 0 (Call.Create FILE 1)
     ∷ administers 0 (Change.SetType FILESYSTEM 2 5)
     ∷ []

@@ -10,13 +10,13 @@ use borrow.Author.Tests.{lt-ltb, eqb-true, eq-eqb}
 use lib.Dec.{eqb}
 use Rattle.sets.proofs.Below.{which}
 use Rattle.model.specs.declared.Call.{Call}
-use Rattle.model.specs.Numbers.{FILESYSTEM, PROCESS, IPC, PROCESSES, FILES, IPCS, FILE, DIR, DEEPEST, EXECUTE, CREATE, DELETE, CLONE, MODIFY-ATTRIBUTE, ASSIGN}
+use Rattle.model.specs.Numbers.{FILESYSTEM, PROCESS, IPC, PROCESSES, FILES, IPCS, FILE, DIR, DEEPEST, EXECUTE, CREATE, DELETE, CLONE, MODIFY-ATTRIBUTE}
 use Rattle.model.specs.Layout.{KIND, DEPTH, KEPT-TYPE}
 use Rattle.model.specs.Ranges.{ranged}
 use Rattle.model.specs.Records.{processAt, fileWord, keptAt, occupied, freePlace}
 use Rattle.model.specs.KeptValues.{typeOf}
 use Rattle.model.specs.Calls.{ownRole, may, accessNo, cloneNo, executeNo, createNo, removable, deleteNo, createIpcNo, deleteIpcNo}
-use Rattle.model.specs.Administration.{passes, mayAssign, assignedType, assignRoleNo, setTypeNo}
+use Rattle.model.specs.Administration.{passes, modifyNo}
 use Rattle.model.specs.Step.{callerNo, ruling, number}
 use Rattle.model.proofs.Decided.{tested}
 
@@ -129,24 +129,13 @@ module _ (t : List ℕ) (c : ℕ) where
   unfolding passes
   passes-by rule e = which (ownRole t c .mark) rule e
 
-  pub record AssignRoleGranted (g o v : ℕ) : Type 0 where
+  pub record ModifyGranted (g o : ℕ) (rule : Bool) : Type 0 where
     pub used : occupied t g o ≡ true
-    pub passed : passes t c (mayAssign t c v && may t c g (typeOf t g o) MODIFY-ATTRIBUTE) ≡ true
+    pub passed : passes t c (rule && may t c g (typeOf t g o) MODIFY-ATTRIBUTE) ≡ true
 
-  pub assign-role-granted : (g o v : ℕ) → (assignRoleNo t c g o v ≡ 0) ↔ AssignRoleGranted g o v
-  unfolding assignRoleNo
-  assign-role-granted g o v = (
-    λ e. let h = simp tested at e in record { used = h .0; passed = h .1 },
-    λ g. rw (g .used, g .passed),
-  )
-
-  pub record SetTypeGranted (g o v : ℕ) : Type 0 where
-    pub used : occupied t g o ≡ true
-    pub passed : passes t c (may t c g (assignedType t o v) ASSIGN && may t c g (typeOf t g o) MODIFY-ATTRIBUTE) ≡ true
-
-  pub set-type-granted : (g o v : ℕ) → (setTypeNo t c g o v ≡ 0) ↔ SetTypeGranted g o v
-  unfolding setTypeNo
-  set-type-granted g o v = (
+  pub modify-granted : (g o : ℕ) (rule : Bool) → (modifyNo t c g o rule ≡ 0) ↔ ModifyGranted g o rule
+  unfolding modifyNo
+  modify-granted g o rule = (
     λ e. let h = simp tested at e in record { used = h .0; passed = h .1 },
     λ g. rw (g .used, g .passed),
   )

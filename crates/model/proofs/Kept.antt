@@ -1,5 +1,5 @@
 -- A granted call keeps a well-formed row well formed, and a refused one leaves it: so does every call.
--- Each call puts a valid record or sets one word in its range; which, its grant says.
+-- Each call puts a valid record or sets words in their range; which, its grant says.
 -- Assumes nothing.
 use Prim.Native.Nat.{ℕ, _+_, _-_, _<_}
 use mathlib.Core.Path.{_≡_, refl}
@@ -20,15 +20,15 @@ use Rattle.model.specs.WellFormed.{wellFormed}
 use Rattle.model.specs.KeptValues.{revalued}
 use Rattle.model.specs.Transitions.{created}
 use Rattle.model.specs.Calls.{ownRole, cloneNo, cloneRow, exitNo, exitRow, executeNo, executeRow, roleUnder, changeOwnerRow, changeRoleRow, createNo, createRow, deleteNo, deleteRow, createIpcNo, createIpcRow, deleteIpcRow}
-use Rattle.model.specs.Administration.{typeAddr, changeSetRow, setUserRoleRow, setInitialRow, setForcedRow, setProcessForcedRow, setDefaultTypeRow, setRoleAdminRow, setTypeRow, changeRightRow, rulingOn}
+use Rattle.model.specs.Administration.{typeAddr, changeSetRow, setUserRoleRow, setProgramRolesRow, setProcessForcedRow, setDefaultTypeRow, setRoleAdminRow, setTypeRow, changeRightRow, rulingOn}
 use Rattle.model.specs.Step.{act, step, ruling, number}
 use Rattle.model.proofs.Decided.{decided, tested}
-use Rattle.model.proofs.Granted.{Caller, granted-by, clone-granted, execute-granted, create-granted, delete-granted, create-ipc-granted, assign-role-granted, set-type-granted, kind-ranged}
+use Rattle.model.proofs.Granted.{Caller, granted-by, clone-granted, execute-granted, create-granted, delete-granted, create-ipc-granted, modify-granted, kind-ranged}
 use Rattle.model.proofs.Records.{by-group, file-occupied, free-place}
 use Rattle.model.proofs.Formed.{Formed, WellFormed, facts, test, Live, Defaults, live-process, defaults, user-role, free-barren, removable-barren}
 use Rattle.model.proofs.Transitions.{chown-role, cloned-live, executed-live, chowned-live, with-role-live}
 use Rattle.model.proofs.Places.{put-live, put-free-process, put-ipc, put-created, put-free-file, set-process, set-ipc, set-role, set-user, set-right}
-use Rattle.model.proofs.KeptValues.{kept-forced-range, put-settled, removed-unkept, revalued-formed}
+use Rattle.model.proofs.KeptValues.{kept-forced-range, put-settled, removed-unkept, revalued-formed, program-roles-formed}
 
 -- a kind that may be asked for is no free place
 pub kind-made : (kind : ℕ) → (kind ≡ FILE) ⊎ (kind ≡ DIR) → kindWord (kindOf kind) ≢ FREE
@@ -133,24 +133,21 @@ module _ (t : List ℕ) (w : WellFormed t) (c : ℕ) where
       g
 
   pub change-kept : (change : Change) → rangedChange change ≡ true → rulingOn t c change .number ≡ 0 → WellFormed (rulingOn t c change .row)
-  unfolding rulingOn setUserRoleRow setInitialRow setForcedRow setProcessForcedRow setRoleAdminRow changeRightRow
+  unfolding rulingOn setUserRoleRow setProgramRolesRow setProcessForcedRow setRoleAdminRow changeRightRow
   change-kept (Change.AddRole s r member) l e = let h = simp tested at l in change-set-kept true s r member (h .0 .0) (h .0 .1)
   change-kept (Change.RemoveRole s r member) l e = let h = simp tested at l in change-set-kept false s r member (h .0 .0) (h .0 .1)
   change-kept (Change.SetUserRole u r) l e = let h = simp tested at l in set-user t w u r (h .0) (h .1)
-  change-kept (Change.SetInitial f v) l e =
+  change-kept (Change.SetProgramRoles f initial forced) l e =
       let h = simp tested at l in
-      revalued-formed t w KEPT-INITIAL f v (omega arith) (h .0) (assign-role-granted t c FILESYSTEM f v .0 e .used) (le-leb v USE-FORCED-ROLE (h .1))
-  change-kept (Change.SetForced f v) l e =
-      let h = simp tested at l in
-      revalued-formed t w KEPT-FORCED f v (omega arith) (h .0) (assign-role-granted t c FILESYSTEM f v .0 e .used) (h .1)
+      program-roles-formed t f initial (h .0 .0) w (modify-granted t c FILESYSTEM f _ .0 e .used) (le-leb initial USE-FORCED-ROLE (h .0 .1)) forced (h .1)
   change-kept (Change.SetProcessForced p v) l e =
       let h = simp tested at l in
-      set-process t w p PROCESS-FORCED v (h .0) (assign-role-granted t c PROCESS p v .0 e .used) (omega arith) (omega arith) (h .1)
+      set-process t w p PROCESS-FORCED v (h .0) (modify-granted t c PROCESS p _ .0 e .used) (omega arith) (omega arith) (h .1)
   change-kept (Change.SetDefaultType d r v) l e = let h = simp tested at l in set-default-type-kept d r v (h .0 .0) (h .0 .1) (h .1)
   change-kept (Change.SetRoleAdmin r mark) l e = let h = simp tested at l in set-role t w r MARK mark (h .0) (omega arith) (le-leb mark 1 (h .1))
   change-kept (Change.SetType g o v) l e =
       let h = simp tested at l in
-      set-type-kept g o v (h .0 .0) (h .0 .1) (h .1) (set-type-granted t c g o v .0 e .used)
+      set-type-kept g o v (h .0 .0) (h .0 .1) (h .1) (modify-granted t c g o _ .0 e .used)
   change-kept (Change.AddRight g r k right) l e = let h = simp tested at l in set-right t w g r k _ (h .0 .0 .0) (h .0 .0 .1) (h .0 .1)
   change-kept (Change.RemoveRight g r k right) l e = let h = simp tested at l in set-right t w g r k _ (h .0 .0 .0) (h .0 .0 .1) (h .0 .1)
 

@@ -1,31 +1,33 @@
 -- What is kept beside the files is the climb's. One step of the climb reads what is kept for the parent, so that a test of each place by itself
--- is exact (by induction on the depth); a file that no place names as its parent is settled by one step; and each sweep over the places makes
--- them right one level further down, whatever their order.
+-- is exact (by induction on the depth); a file that no place names as its parent is settled by one step; each sweep over the places makes them
+-- right one level further down, whatever their order; and two values that are set do not meet.
 -- Assumes nothing.
 use Prim.Native.Nat.{ℕ, zero, suc, _+_, _*_, _≤_, _<_}
 use mathlib.Core.Path.{_≡_, refl, sym, ap, _∙_}
-use mathlib.Core.Bool.{true}
+use mathlib.Core.Bool.{true, cond}
 use mathlib.Core.List.{List, [], _∷_}
 use mathlib.Core.Logic.{_≢_, _⊎_, inl, inr, ⊎-elim}
+use native.Mathlib.Nat.{add-zero}
 use native.Mathlib.Omega.{arith}
 use native.Mathlib.Decide.{ℕ-discrete}
 use borrow.Author.Tests.{eqb-true, eqb-false, eq-eqb}
 use lib.ListN.{length, set}
+use lib.Seq.{set-comm}
 use lib.Dec.{eqb}
 use Rattle.sets.specs.Below.{allBelow}
 use Rattle.sets.proofs.Below.{all-at, all-of, same-truth, by-bool, lt-or-le}
 use Rattle.model.specs.declared.Climbed.{Climbed}
 use Rattle.model.specs.declared.File.{File}
 use Rattle.model.specs.Numbers.{FILESYSTEM, FILES, DIR, DEPTHS, INHERIT-PARENT, ROOT, TYPES, isRoot}
-use Rattle.model.specs.Layout.{rowLength, KIND, PARENT, DEPTH, FILE-TYPE, FILE-WORDS, FORCED, KEPT-TYPE, KEPT-INITIAL, KEPT-FORCED, KEPT-WORDS, KEPT-AT, fileAddr, keptAddr}
+use Rattle.model.specs.Layout.{KIND, PARENT, DEPTH, FILE-TYPE, FILE-WORDS, INITIAL, FORCED, KEPT-TYPE, KEPT-INITIAL, KEPT-FORCED, KEPT-WORDS, KEPT-AT, fileAddr, keptAddr}
 use Rattle.model.specs.Ranges.{okProcessForced}
 use Rattle.model.specs.Words.{_!_, put}
 use Rattle.model.specs.Records.{fileWord, keptAt, putFile, freeFile, occupied}
 use Rattle.model.specs.WellFormed.{keptOk}
-use Rattle.model.specs.Effective.{effective, valueAt, rootValue}
+use Rattle.model.specs.Effective.{effective, valueAt}
 use Rattle.model.specs.KeptValues.{ownOrParents, settled, unkept, keptAnew, swept, sweeps, refreshed, revalued}
 use Rattle.model.proofs.Words.{block-put-same, block-at}
-use Rattle.model.proofs.Records.{by-cond, Written, put-written, set-written, file-written, unwritten, written-within, written-then, file-word-stays, files-stay, kept-stays, kept-set, file-word-put}
+use Rattle.model.proofs.Records.{by-cond, Written, put-written, set-written, file-written, unwritten, written-within, written-then, file-word-stays, files-stay, kept-stays, kept-set, occupied-stays, file-word-put}
 use Rattle.model.proofs.Formed.{Formed, WellFormed, okValue, Under, Barren, used-file, free-file, parent-dir, depth-bound, no-dir-barren}
 use Rattle.model.proofs.Effective.{effective-own, effective-top, effective-up, effective-agree, effective-put-other, value-same, type-range, forced-range}
 use Rattle.model.proofs.Places.{beside-formed, set-value}
@@ -36,6 +38,10 @@ Right t k o = keptAt t k o ≡ valueAt t (FILE-TYPE + k) o
 
 the-value : (e f : Climbed) → e ≡ f → e .value ≡ f .value
 the-value e f h = rw h
+
+-- no file is its own parent, since it lies deeper
+not-own-parent : (t : List ℕ) (o : ℕ) → Under t o (fileWord t o PARENT) → fileWord t o PARENT ≢ o
+not-own-parent t o y e = let d : fileWord t o DEPTH ≡ fileWord t o DEPTH + 1 = y .deeper ∙ ap (λ (q : ℕ). fileWord t q DEPTH + 1) e in omega arith
 
 -- ---- what is kept is in its range
 
@@ -156,12 +162,8 @@ module _ (t : List ℕ) (w : WellFormed t) (o : ℕ) (f : File) (l : o < FILES) 
       (rw (eq-eqb _ _ (step KEPT-TYPE (omega arith)), eq-eqb _ _ (step KEPT-INITIAL (omega arith)), eq-eqb _ _ (step KEPT-FORCED (omega arith)))) k m))
       others
     where
-      -- no file is its own parent, since it lies deeper
-      apart : Under u o (fileWord u o PARENT) → fileWord u o PARENT ≢ o
-      apart y z = let d : fileWord u o DEPTH ≡ fileWord u o DEPTH + 1 = y .deeper ∙ ap (λ (q : ℕ). fileWord u q DEPTH + 1) z in omega arith
-
       step : (k : ℕ) → k < KEPT-WORDS → ownOrParents u k o ≡ valueAt u (FILE-TYPE + k) o
-      step k m = step-climb u v k o m l (λ y. others k (fileWord u o PARENT) m (y .placed) (apart y))
+      step k m = step-climb u v k o m l (λ y. others k (fileWord u o PARENT) m (y .placed) (not-own-parent u o y))
 
 pub removed-unkept : (t : List ℕ) → WellFormed t → (o : ℕ) → o < FILES → Barren t o → Formed (putFile t o freeFile) → WellFormed (unkept (putFile t o freeFile) o)
 unfolding unkept allBelow valueAt
@@ -367,7 +369,7 @@ module _ (t : List ℕ) (w : WellFormed t) (k o v : ℕ) (m : k < KEPT-WORDS) (l
               | yes e ↦
                   rw e
                   (elim (ℕ-discrete j k) [
-                    | yes z ↦ rw z (anew-right k m valueSet set-formed o l (λ y. before k (fileWord valueSet o PARENT) m (y .placed) (inl (apart y))))
+                    | yes z ↦ rw z (anew-right k m valueSet set-formed o l (λ y. before k (fileWord valueSet o PARENT) m (y .placed) (inl (not-own-parent valueSet o y))))
                     | no d ↦ anew-other k m valueSet o j o h (inr d) ∙ before j o h l (inr d) ∙ sym (beside-value x set-formed j o h l)
                   ])
               | no n ↦ anew-other k m valueSet o j q h (inl n) ∙ before j q h i (inl n) ∙ sym (beside-value x set-formed j q h i)
@@ -382,12 +384,70 @@ module _ (t : List ℕ) (w : WellFormed t) (k o v : ℕ) (m : k < KEPT-WORDS) (l
       before j q h i d =
           set-kept j q h ∙ w .kept j q h i ∙ sym (⊎-elim (λ n. climb-elsewhere dir j q h i n) (λ e. climb-other j q h e) d)
 
-      -- no file is its own parent, since it lies deeper
-      apart : Under valueSet o (fileWord valueSet o PARENT) → fileWord valueSet o PARENT ≢ o
-      apart y z = let d : fileWord valueSet o DEPTH ≡ fileWord valueSet o DEPTH + 1 = y .deeper ∙ ap (λ (q : ℕ). fileWord valueSet q DEPTH + 1) z in omega arith
-
   pub revalued-formed : WellFormed (revalued valueSet k o)
   unfolding revalued
   revalued-formed =
       by-cond WellFormed (eqb (fileWord valueSet o KIND) DIR) _ _ (λ e. refreshed-formed)
       (λ e. anew-formed (λ z. eqb-false _ _ e (set-word o KIND (omega arith) (inr (omega arith)) ∙ z)))
+
+-- ---- two values of a file are set: as if one after the other
+
+-- where value j of a file is set, value k of no place reads it
+module _ (k o j v : ℕ) (m : k < KEPT-WORDS) (h : j < KEPT-WORDS) (l : o < FILES) (d : j ≢ k) where
+  abbrev with : List ℕ → List ℕ
+  with t = set t (fileAddr o + (FILE-TYPE + j)) v
+
+  own-with : (t : List ℕ) (q : ℕ) → ownOrParents (with t) k q ≡ ownOrParents t k q
+  unfolding ownOrParents
+  own-with t q =
+      let x = set-written t (fileAddr o + (FILE-TYPE + j)) v in
+      rw (file-word-stays x q (FILE-TYPE + k) (omega arith), file-word-stays x q PARENT (omega arith), kept-stays x k (fileWord t q PARENT) (omega arith))
+
+  anew-with : (t : List ℕ) (q : ℕ) → keptAnew (with t) k q ≡ with (keptAnew t k q)
+  unfolding keptAnew
+  anew-with t q = rw (own-with t q) (set-comm t (fileAddr o + (FILE-TYPE + j)) (keptAddr q + k) v (ownOrParents t k q) (omega arith))
+
+  swept-with : (t : List ℕ) (low n : ℕ) → swept low n (with t) k ≡ with (swept low n t k)
+  unfolding swept
+  swept-with t low zero = refl
+  swept-with t low (suc n) = rw (swept-with t low n) (anew-with (swept low n t k) (low + n))
+
+  sweeps-with : (t : List ℕ) (d low n : ℕ) → sweeps d low n (with t) k ≡ with (sweeps d low n t k)
+  unfolding sweeps
+  sweeps-with t zero low n = refl
+  sweeps-with t (suc d) low n = rw (sweeps-with t d low n) (swept-with (sweeps d low n t k) low n)
+
+  revalued-with : (t : List ℕ) (q : ℕ) → revalued (with t) k q ≡ with (revalued t k q)
+  unfolding revalued
+  revalued-with t q =
+      rw (file-word-stays (set-written t (fileAddr o + (FILE-TYPE + j)) v) q KIND (omega arith))
+      (by-bool (λ b. cond b (refreshed 0 FILES (with t) k) (keptAnew (with t) k q) ≡ with (cond b (refreshed 0 FILES t k) (keptAnew t k q)))
+      (eqb (fileWord t q KIND) DIR) (λ e. sweeps-with t DEPTHS 0 FILES) (λ e. anew-with t q))
+
+-- the row with the initial value of a file set alone
+abbrev pub initialSet : List ℕ → ℕ → ℕ → List ℕ
+initialSet t f initial = revalued (set t (fileAddr f + INITIAL) initial) KEPT-INITIAL f
+
+module _ (t : List ℕ) (f initial : ℕ) (l : f < FILES) where
+  pub one-by-one : (forced : ℕ)
+      → revalued (revalued (put t (fileAddr f + INITIAL) (initial ∷ forced ∷ [])) KEPT-INITIAL f) KEPT-FORCED f
+      ≡ revalued (set (initialSet t f initial) (fileAddr f + FORCED) forced) KEPT-FORCED f
+  unfolding put
+  one-by-one forced =
+      let next : fileAddr f + INITIAL + 1 ≡ fileAddr f + FORCED = omega arith in
+      ap (λ (u : List ℕ). revalued u KEPT-FORCED f)
+      (rw (add-zero, next) (revalued-with KEPT-INITIAL f KEPT-FORCED forced (omega arith) (omega arith) l (omega arith) (set t (fileAddr f + INITIAL) initial) f))
+
+  module _ (w : WellFormed t) (used : occupied t FILESYSTEM f ≡ true) (ok : okValue KEPT-INITIAL initial ≡ true) where
+    pub initial-formed : WellFormed (initialSet t f initial)
+    initial-formed = revalued-formed t w KEPT-INITIAL f initial (omega arith) l used ok
+
+    pub still-used : occupied (initialSet t f initial) FILESYSTEM f ≡ true
+    still-used =
+        occupied-stays (revalued-written KEPT-INITIAL (omega arith) (set t (fileAddr f + INITIAL) initial) f l) FILESYSTEM f (omega arith)
+        ∙ occupied-stays (set-written t (fileAddr f + INITIAL) initial) FILESYSTEM f (omega arith)
+        ∙ used
+
+    pub program-roles-formed : (forced : ℕ) → okValue KEPT-FORCED forced ≡ true
+        → WellFormed (revalued (revalued (put t (fileAddr f + INITIAL) (initial ∷ forced ∷ [])) KEPT-INITIAL f) KEPT-FORCED f)
+    program-roles-formed forced v = rw (one-by-one forced) (revalued-formed (initialSet t f initial) initial-formed KEPT-FORCED f forced (omega arith) l still-used v)

@@ -50,8 +50,7 @@ abbrev pub rangedChange : Change → Bool
 rangedChange (Change.AddRole s r member) = rangedMember s r member
 rangedChange (Change.RemoveRole s r member) = rangedMember s r member
 rangedChange (Change.SetUserRole u r) = ltb u USERS && ltb r ROLES
-rangedChange (Change.SetInitial f v) = ltb f FILES && okInitial v
-rangedChange (Change.SetForced f v) = ltb f FILES && okForced v
+rangedChange (Change.SetProgramRoles f initial forced) = ltb f FILES && okInitial initial && okForced forced
 rangedChange (Change.SetProcessForced p v) = ltb p PROCESSES && okProcessForced v
 rangedChange (Change.SetDefaultType which r v) = ltb which DEFAULT-TYPES && ltb r ROLES && okDefault which v
 rangedChange (Change.SetRoleAdmin r mark) = ltb r ROLES && leb mark 1

@@ -97,13 +97,10 @@ pub enum Change {
         user: u32,
         role: u32,
     },
-    SetInitial {
+    SetProgramRoles {
         file: u32,
-        value: u32,
-    },
-    SetForced {
-        file: u32,
-        value: u32,
+        initial: u32,
+        forced: u32,
     },
     SetProcessForced {
         process: u32,

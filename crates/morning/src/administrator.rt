@@ -5,6 +5,7 @@ use model::Call;
 use model::Change;
 use model::numbers::FILESYSTEM;
 use model::numbers::PROCESS;
+use model::numbers::USE_FORCED_ROLE;
 use monitor::step;
 
 fn administer(t: &mut [u32], text: &[u8], change: Change) {
@@ -87,9 +88,17 @@ pub(crate) fn file_type(t: &mut [u32], text: &[u8], file: u32, value: u32) {
     );
 }
 
-// Gives a program or a directory of programs the role that it forces on who runs it.
-pub(crate) fn forced(t: &mut [u32], text: &[u8], file: u32, value: u32) {
-    administer(t, text, Change::SetForced { file, value });
+// Gives a program or a directory of programs the role that it forces on who runs it, from the start.
+pub(crate) fn forced(t: &mut [u32], text: &[u8], file: u32, role: u32) {
+    administer(
+        t,
+        text,
+        Change::SetProgramRoles {
+            file,
+            initial: USE_FORCED_ROLE,
+            forced: role,
+        },
+    );
 }
 
 // Makes a file or a directory.

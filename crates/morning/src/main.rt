@@ -1,6 +1,6 @@
 // The planner's morning: a box at a water utility on which a planning script cannot write the list that the valves are driven by.
 // Everything is made from fresh tables by calls of processes; each call is told, with its answer.
-use formed::build_fresh;
+use fresh::build_fresh;
 use model::layout::ROW_LENGTH;
 
 mod administrator;

@@ -17,18 +17,18 @@ use Rattle.sets.proofs.Sets.{added-there, removed-absent}
 use Rattle.model.specs.declared.Call.{Call}
 use Rattle.model.specs.declared.Change.{Change}
 use Rattle.model.specs.Numbers.{FILES, FILESYSTEM, GROUPS, IPC, IPCS, PROCESS, _unless_, _▹_, places}
-use Rattle.model.specs.Layout.{FILE-TYPE, KEPT-AT, KEPT-FORCED, KEPT-INITIAL, KEPT-TYPE, KEPT-WORDS, RIGHTS-AT, fileAddr, rowLength}
+use Rattle.model.specs.Layout.{KEPT-AT, KEPT-FORCED, KEPT-INITIAL, KEPT-TYPE, KEPT-WORDS, RIGHTS-AT, rowLength}
 use Rattle.model.specs.Ranges.{rangedChange}
 use Rattle.model.specs.Words.{put, _!_}
 use Rattle.model.specs.Records.{putFile, putIpc, putProcess, freePlace, hasRight, occupied}
 use Rattle.model.specs.WellFormed.{wellFormed}
 use Rattle.model.specs.Outcome.{Outcome, granting, Ruling}
 use Rattle.model.specs.Calls.{changeOwnerRow, changeRoleRow, cloneRow, createIpcRow, createRow, deleteIpcRow, deleteRow, executeRow, exitRow}
-use Rattle.model.specs.Administration.{changeRightRow, changeSetRow, rulingOn, setDefaultTypeRow, setForcedRow, setInitialRow, setProcessForcedRow, setRoleAdminRow, setTypeRow, setUserRoleRow, typeAddr}
+use Rattle.model.specs.Administration.{changeRightRow, changeSetRow, rulingOn, setDefaultTypeRow, setProcessForcedRow, setProgramRolesRow, setRoleAdminRow, setTypeRow, setUserRoleRow, typeAddr}
 use Rattle.model.specs.Step.{ruling, step, number}
 use Rattle.model.specs.KeptValues.{revalued}
 use Rattle.model.proofs.Words.{block-put-same, put-length, word-put-other}
-use Rattle.model.proofs.Records.{Written, block-stays, by-group, free-place, unwritten, written-within}
+use Rattle.model.proofs.Records.{Written, block-stays, by-group, free-place, unwritten, written-then, written-within}
 use Rattle.model.proofs.KeptValues.{revalued-written, settled-written, unkept-written}
 use Rattle.model.proofs.Decided.{decide-granting, decide-refusing, decided, tested}
 use Rattle.model.proofs.Granted.{Granted, clone-granted, create-granted, create-ipc-granted, granted-by}
@@ -66,29 +66,25 @@ module _ (t : List ℕ) (c : ℕ) where
   just : (x : Write) (u : List ℕ) → u ≡ put t (x .at) (x .words) → Written (put t (x .at) (x .words)) u KEPT-AT (FILES * KEPT-WORDS)
   just x u e = rw e (unwritten _ _ _)
 
-  -- a value of a file, and what is kept goes with it
-  value-leaves : (k o v : ℕ) → k < KEPT-WORDS → o < FILES
-      → Written (put t (fileAddr o + (FILE-TYPE + k)) (v ∷ [])) (revalued (set t (fileAddr o + (FILE-TYPE + k)) v) k o) KEPT-AT (FILES * KEPT-WORDS)
-  value-leaves k o v m l = rw (← one-word t (fileAddr o + (FILE-TYPE + k)) v) (revalued-written k m (set t (fileAddr o + (FILE-TYPE + k)) v) o l)
-
   type-leaves : (g o v : ℕ) → g < GROUPS → o < places g
       → Written (put t (typeAddr g o) (v ∷ [])) (cond (eqb g FILESYSTEM) (revalued (set t (typeAddr g o) v) KEPT-TYPE o) (set t (typeAddr g o) v)) KEPT-AT (FILES * KEPT-WORDS)
   type-leaves g o v =
       by-group
       (λ g. o < places g
       → Written (put t (typeAddr g o) (v ∷ [])) (cond (eqb g FILESYSTEM) (revalued (set t (typeAddr g o) v) KEPT-TYPE o) (set t (typeAddr g o) v)) KEPT-AT (FILES * KEPT-WORDS))
-      (λ l. value-leaves KEPT-TYPE o v (omega arith) l)
+      (λ l. rw (← one-word t (typeAddr FILESYSTEM o) v) (revalued-written KEPT-TYPE (omega arith) (set t (typeAddr FILESYSTEM o) v) o l))
       (λ l. rw (one-word t (typeAddr PROCESS o) v) (unwritten _ _ _))
       (λ l. rw (one-word t (typeAddr IPC o) v) (unwritten _ _ _))
       g
 
   change-leaves : (change : Change) → rangedChange change ≡ true → Leaves (changeWrites t change) 0 (rulingOn t c change)
-  unfolding rulingOn changeSetRow setUserRoleRow setInitialRow setForcedRow setProcessForcedRow setDefaultTypeRow setRoleAdminRow setTypeRow changeRightRow
+  unfolding rulingOn changeSetRow setUserRoleRow setProgramRolesRow setProcessForcedRow setDefaultTypeRow setRoleAdminRow setTypeRow changeRightRow
   change-leaves (Change.AddRole s r member) l = (just _ _ (one-word t _ _), refl)
   change-leaves (Change.RemoveRole s r member) l = (just _ _ (one-word t _ _), refl)
   change-leaves (Change.SetUserRole u r) l = (just _ _ (one-word t _ _), refl)
-  change-leaves (Change.SetInitial f v) l = let h = simp tested at l in (value-leaves KEPT-INITIAL f v (omega arith) (h .0), refl)
-  change-leaves (Change.SetForced f v) l = let h = simp tested at l in (value-leaves KEPT-FORCED f v (omega arith) (h .0), refl)
+  change-leaves (Change.SetProgramRoles f initial forced) l =
+      let h = simp tested at l in
+      (written-then (revalued-written KEPT-INITIAL (omega arith) _ f (h .0 .0)) (revalued-written KEPT-FORCED (omega arith) _ f (h .0 .0)), refl)
   change-leaves (Change.SetProcessForced p v) l = (just _ _ (one-word t _ _), refl)
   change-leaves (Change.SetDefaultType which r v) l = (just _ _ (one-word t _ _), refl)
   change-leaves (Change.SetRoleAdmin r mark) l = (just _ _ (one-word t _ _), refl)
@@ -123,8 +119,7 @@ module _ (t : List ℕ) (c : ℕ) where
   change-fits (Change.AddRole s r member) l = let h = simp tested at l in inl (omega arith)
   change-fits (Change.RemoveRole s r member) l = let h = simp tested at l in inl (omega arith)
   change-fits (Change.SetUserRole u r) l = let h = simp tested at l in inl (omega arith)
-  change-fits (Change.SetInitial f v) l = let h = simp tested at l in inl (omega arith)
-  change-fits (Change.SetForced f v) l = let h = simp tested at l in inl (omega arith)
+  change-fits (Change.SetProgramRoles f initial forced) l = let h = simp tested at l in inl (omega arith)
   change-fits (Change.SetProcessForced p v) l = let h = simp tested at l in inl (omega arith)
   change-fits (Change.SetDefaultType which r v) l = let h = simp tested at l in inl (omega arith)
   change-fits (Change.SetRoleAdmin r mark) l = let h = simp tested at l in inl (omega arith)

@@ -3,6 +3,7 @@ pub mod Numbers
 pub mod Claims
 pub mod Changes
 pub mod KeptValues
+pub mod ProgramRoles
 pub mod Policy
 pub mod Formed
 pub mod Effective

@@ -18,7 +18,7 @@ use Rattle.model.specs.WellFormed.{wellFormed}
 use Rattle.model.specs.Effective.{effective}
 use Rattle.model.specs.Queries.{foundBy, query, queryNo}
 use Rattle.model.specs.Calls.{accessNo, changeOwnerNo, changeRoleNo, cloneNo, createIpcNo, createNo, deleteIpcNo, deleteNo, executeNo, exitNo, ownRole}
-use Rattle.model.specs.Administration.{assignRoleNo, changeRightNo, changeSetNo, passes, roleAdminNo, rulingOn, setTypeNo, setUserRoleNo}
+use Rattle.model.specs.Administration.{changeRightNo, changeSetNo, modifyNo, passes, roleAdminNo, rulingOn, setUserRoleNo}
 use Rattle.model.specs.Step.{callerNo, ruling, number, step}
 use Rattle.model.proofs.Decided.{decide-number, tested, then-iff, unless-1}
 use Rattle.promises.specs.Promises.{isOneOf, A-call-answers-0-to-8, A-call-is-granted-exactly-when-its-tests-hold, A-call-is-refused-by-the-first-test-that-fails, A-query-answers-0-1-2-or-4, A-query-is-answered-exactly-when-its-tests-hold, Exit-answers-0-1-2-3-or-6}
@@ -41,12 +41,11 @@ module _ (t : List ℕ) (c : ℕ) where
   Chained tests n = (n ≡ firstOf tests) × EachNumber Own tests
 
   change-chained : (change : Change) → Chained (changeTests t c change) (rulingOn t c change .number)
-  unfolding rulingOn changeSetNo setUserRoleNo assignRoleNo roleAdminNo setTypeNo changeRightNo
+  unfolding rulingOn changeSetNo setUserRoleNo modifyNo roleAdminNo changeRightNo
   change-chained (Change.AddRole s r member) = (simp then-zero, (refl, tt))
   change-chained (Change.RemoveRole s r member) = (simp then-zero, (refl, tt))
   change-chained (Change.SetUserRole u r) = (simp then-zero, (refl, tt))
-  change-chained (Change.SetInitial f v) = (simp then-zero, (refl, (refl, tt)))
-  change-chained (Change.SetForced f v) = (simp then-zero, (refl, (refl, tt)))
+  change-chained (Change.SetProgramRoles f initial forced) = (simp then-zero, (refl, (refl, tt)))
   change-chained (Change.SetProcessForced p v) = (simp then-zero, (refl, (refl, tt)))
   change-chained (Change.SetDefaultType which r v) = (simp (then-zero, mark-only), (refl, tt))
   change-chained (Change.SetRoleAdmin r mark) = (simp (then-zero, mark-only), (refl, tt))

@@ -1,3 +1,4 @@
 pub mod Tests
 pub mod Writes
+pub mod Before
 pub mod Promises

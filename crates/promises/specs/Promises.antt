@@ -14,7 +14,7 @@ use Rattle.sets.specs.declared.RoleSet.{RoleSet}
 use Rattle.model.specs.declared.Answer.{Answer}
 use Rattle.model.specs.declared.Call.{Call}
 use Rattle.model.specs.declared.Change.{Change}
-use Rattle.model.specs.Numbers.{DEEPEST, DIR, FILE, FILES, FILESYSTEM, INHERIT-PARENT, ROOT, UP-MIXED, USE-FORCED-ROLE, places}
+use Rattle.model.specs.Numbers.{DEEPEST, DIR, FILE, FILES, FILESYSTEM, INHERIT-PARENT, ROOT, UP-MIXED, USE-FORCED-ROLE, lower, places}
 use Rattle.model.specs.Layout.{FILE-TYPE, FORCED, INITIAL, KEPT-WORDS, KIND, PARENT, roleAddr, rowLength}
 use Rattle.model.specs.Words.{_!_}
 use Rattle.model.specs.Records.{fileWord, keptAt, occupied, freePlace, hasRight}
@@ -28,6 +28,7 @@ use Rattle.model.specs.Step.{act, step}
 use Rattle.model.specs.Claims.{check, typeIn}
 use Rattle.model.specs.Runs.{Event, administers, allowed, confined, deed, familyOver, founder, happens, harmless, after}
 use Rattle.promises.specs.Tests.{FirstFails, Hold, callTests, claimTests, queryTests, rules}
+use Rattle.promises.specs.Before.{setForced, setInitial}
 use Rattle.promises.specs.Writes.{movesKept, writes, placeTaken, Wrote}
 
 -- ---- one of nine numbers
@@ -100,6 +101,29 @@ A-claim-is-refused-by-the-first-rule-broken =
     (t w : List ℕ) (n : ℕ)
     → ((check t w .number ≡ 9) × (check t w .rule ≡ n)) ↔ (Hold (claimTests t w) × FirstFails (rules t w) n)
 
+-- ---- one call for both roles of a program (W-207), beside the two calls that set one of them each (Before)
+
+-- It is granted exactly when both would be, from the same tables.
+abbrev pub Program-roles-are-granted-exactly-when-both-values-were : Type 0
+Program-roles-are-granted-exactly-when-both-values-were =
+    (t : List ℕ) (c f initial forced : ℕ)
+    → (step t c (Call.Administer (Change.SetProgramRoles f initial forced)) .answer .number ≡ 0)
+    ↔ ((setInitial t c f initial .answer .number ≡ 0) × (setForced t c f forced .answer .number ≡ 0))
+
+-- Its number is the lower of theirs, where 0 is none.
+abbrev pub Program-roles-are-refused-with-the-lower-number : Type 0
+Program-roles-are-refused-with-the-lower-number =
+    (t : List ℕ) (c f initial forced : ℕ)
+    → step t c (Call.Administer (Change.SetProgramRoles f initial forced)) .answer .number
+    ≡ lower (setInitial t c f initial .answer .number) (setForced t c f forced .answer .number)
+
+-- And a grant leaves the tables as the one and then the other would.
+abbrev pub Program-roles-are-set-as-one-value-after-the-other : Type 0
+Program-roles-are-set-as-one-value-after-the-other =
+    (t : List ℕ) (c f initial forced : ℕ)
+    → step t c (Call.Administer (Change.SetProgramRoles f initial forced)) .answer .number ≡ 0
+    → step t c (Call.Administer (Change.SetProgramRoles f initial forced)) .after ≡ setForced (setInitial t c f initial .after) c f forced .after
+
 -- ---- what a call changes
 
 -- A refused call leaves every table as it was, and answers its number and nothing else.
@@ -109,8 +133,8 @@ A-refused-call-changes-nothing =
     → step t c call .answer .number ≢ 0
     → (step t c call .after ≡ t) × (step t c call .answer .place ≡ 0)
 
--- A granted call changes one record, or one word, and no other word of any table: what it writes then stands there, and all else is as before, but
--- for what is kept beside the files, of which the promises of kept values speak.
+-- A granted call changes one record, one word, or the two words of a program's roles, and no other word of any table: what it writes then stands there,
+-- and all else is as before, but for what is kept beside the files, of which the promises of kept values speak.
 abbrev pub A-granted-call-changes-one-record : Type 0
 A-granted-call-changes-one-record =
     (t : List ℕ) (c : ℕ) (call : Call) → step t c call .answer .number ≡ 0 → Wrote t (step t c call .after) (writes t c call)

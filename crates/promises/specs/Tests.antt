@@ -46,10 +46,9 @@ FirstFails (x ∷ rest) n = ((x .holds ≡ false) × (n ≡ x .number)) ⊎ ((x 
 abbrev memberTests : List ℕ → ℕ → ℕ → ℕ → ℕ → List Test
 memberTests t c s r member = 5 ifNot passes t c (eqb s COMPATIBLE-ROLES && mayAssign t c member && mayAdmin t c r) ∷ []
 
--- rules 27, 28 and 29: the initial or forced value of an object
-abbrev valueTests : List ℕ → ℕ → ℕ → ℕ → ℕ → List Test
-valueTests t c g o v =
-    4 ifNot occupied t g o ∷ 5 ifNot passes t c (mayAssign t c v && may t c g (typeOf t g o) MODIFY-ATTRIBUTE) ∷ []
+-- rules 27, 28, 29 and 32: what is set of an object
+abbrev modifyTests : List ℕ → ℕ → ℕ → ℕ → Bool → List Test
+modifyTests t c g o rule = 4 ifNot occupied t g o ∷ 5 ifNot passes t c (rule && may t c g (typeOf t g o) MODIFY-ATTRIBUTE) ∷ []
 
 -- rules 33 and 34: one right
 abbrev rightTests : List ℕ → ℕ → ℕ → ℕ → ℕ → ℕ → List Test
@@ -60,15 +59,11 @@ abbrev pub changeTests : List ℕ → ℕ → Change → List Test
 changeTests t c (Change.AddRole s r member) = memberTests t c s r member
 changeTests t c (Change.RemoveRole s r member) = memberTests t c s r member
 changeTests t c (Change.SetUserRole u r) = 5 ifNot passes t c (mayAssign t c r && mayAssign t c (userRole t u)) ∷ []
-changeTests t c (Change.SetInitial f v) = valueTests t c FILESYSTEM f v
-changeTests t c (Change.SetForced f v) = valueTests t c FILESYSTEM f v
-changeTests t c (Change.SetProcessForced p v) = valueTests t c PROCESS p v
+changeTests t c (Change.SetProgramRoles f initial forced) = modifyTests t c FILESYSTEM f (mayAssign t c initial && mayAssign t c forced)
+changeTests t c (Change.SetProcessForced p v) = modifyTests t c PROCESS p (mayAssign t c v)
 changeTests t c (Change.SetDefaultType which r v) = 5 ifNot ownRole t c .mark ∷ []
 changeTests t c (Change.SetRoleAdmin r mark) = 5 ifNot ownRole t c .mark ∷ []
-changeTests t c (Change.SetType g o v) =
-    4 ifNot occupied t g o
-    ∷ 5 ifNot passes t c (may t c g (assignedType t o v) ASSIGN && may t c g (typeOf t g o) MODIFY-ATTRIBUTE)
-    ∷ []
+changeTests t c (Change.SetType g o v) = modifyTests t c g o (may t c g (assignedType t o v) ASSIGN)
 changeTests t c (Change.AddRight g r k right) = rightTests t c g r k right
 changeTests t c (Change.RemoveRight g r k right) = rightTests t c g r k right
 

@@ -1,5 +1,5 @@
--- What each granted call writes: one record, or one word, and nothing else (Promises); access writes nothing. Beside that, which of the values kept
--- for files it may move (W-206). And the place that it answers.
+-- What each granted call writes: one record, one word, or the two words of a program's roles, and nothing else (Promises); access writes nothing.
+-- Beside that, which of the values kept for files it may move (W-206). And the place that it answers.
 -- Assumes nothing.
 use Prim.Native.Nat.{_+_, _*_, ℕ, zero, suc, _<_, _≤_}
 use mathlib.Core.List.{List, [], _∷_}
@@ -15,7 +15,7 @@ use Rattle.model.specs.declared.File.{File}
 use Rattle.model.specs.declared.Ipc.{Ipc}
 use Rattle.model.specs.declared.Process.{Process}
 use Rattle.model.specs.Numbers.{FILES, FILESYSTEM, INHERIT-PARENT, IPC, PROCESS}
-use Rattle.model.specs.Layout.{DEFAULTS, DEPTH, FILE-TYPE, FORCED, INITIAL, KEPT-AT, KEPT-FORCED, KEPT-INITIAL, KEPT-TYPE, KEPT-WORDS, MARK, PARENT, PROCESS-FORCED, fileAddr, ipcAddr, processAddr, rightsAddr, roleAddr, userAddr}
+use Rattle.model.specs.Layout.{DEFAULTS, DEPTH, FILE-TYPE, INITIAL, KEPT-AT, KEPT-FORCED, KEPT-INITIAL, KEPT-TYPE, KEPT-WORDS, MARK, PARENT, PROCESS-FORCED, fileAddr, ipcAddr, processAddr, rightsAddr, roleAddr, userAddr}
 use Rattle.model.specs.Words.{_!_, block}
 use Rattle.model.specs.Records.{fileWord, fileWords, forcedOf, freeFile, freeIpc, freePlace, freeProcess, initialOf, ipcWords, keptAt, kindOf, processAt, processWords, roleAt, userRole}
 use Rattle.model.specs.Transitions.{cloned, executed, chowned, withRole, created}
@@ -65,8 +65,7 @@ abbrev pub changeWrites : List ℕ → Change → Write
 changeWrites t (Change.AddRole s r member) = setWith t (roleAddr r + s) member
 changeWrites t (Change.RemoveRole s r member) = setWithout t (roleAddr r + s) member
 changeWrites t (Change.SetUserRole u r) = oneWord (userAddr u) r
-changeWrites t (Change.SetInitial f v) = oneWord (fileAddr f + INITIAL) v
-changeWrites t (Change.SetForced f v) = oneWord (fileAddr f + FORCED) v
+changeWrites t (Change.SetProgramRoles f initial forced) = record { at = fileAddr f + INITIAL; words = initial ∷ forced ∷ [] }
 changeWrites t (Change.SetProcessForced p v) = oneWord (processAddr p + PROCESS-FORCED) v
 changeWrites t (Change.SetDefaultType which r v) = oneWord (roleAddr r + (DEFAULTS + which)) v
 changeWrites t (Change.SetRoleAdmin r mark) = oneWord (roleAddr r + MARK) mark
@@ -107,8 +106,7 @@ abbrev pub changeMoves : List ℕ → Change → ℕ → ℕ → Bool
 changeMoves t (Change.AddRole s r member) j q = false
 changeMoves t (Change.RemoveRole s r member) j q = false
 changeMoves t (Change.SetUserRole u r) j q = false
-changeMoves t (Change.SetInitial f v) j q = inheritsFrom t KEPT-INITIAL f j q
-changeMoves t (Change.SetForced f v) j q = inheritsFrom t KEPT-FORCED f j q
+changeMoves t (Change.SetProgramRoles f initial forced) j q = inheritsFrom t KEPT-INITIAL f j q || inheritsFrom t KEPT-FORCED f j q
 changeMoves t (Change.SetProcessForced p v) j q = false
 changeMoves t (Change.SetDefaultType which r v) j q = false
 changeMoves t (Change.SetRoleAdmin r mark) j q = false

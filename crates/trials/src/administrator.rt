@@ -37,14 +37,16 @@ pub(crate) fn set_default_type(t: &mut [u32], which: u32, role: u32, value: u32)
     administer(t, Change::SetDefaultType { which, role, value })
 }
 
-// Sets a file's initial value.
-pub(crate) fn set_initial(t: &mut [u32], file: u32, value: u32) -> Answer {
-    administer(t, Change::SetInitial { file, value })
-}
-
-// Sets a file's forced value.
-pub(crate) fn set_forced(t: &mut [u32], file: u32, value: u32) -> Answer {
-    administer(t, Change::SetForced { file, value })
+// Sets a file's initial and forced value.
+pub(crate) fn set_program_roles(t: &mut [u32], file: u32, initial: u32, forced: u32) -> Answer {
+    administer(
+        t,
+        Change::SetProgramRoles {
+            file,
+            initial,
+            forced,
+        },
+    )
 }
 
 // Sets the type of a file or a directory.

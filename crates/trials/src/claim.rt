@@ -2,7 +2,7 @@
 use crate::tell::line;
 use crate::tell::part;
 use claims::check;
-use formed::build_fresh;
+use fresh::build_fresh;
 use model::Verdict;
 use model::layout::CLAIM_LENGTH;
 use model::layout::CLAIM_PROCESS;

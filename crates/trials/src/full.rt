@@ -6,7 +6,7 @@ use crate::tell::counted;
 use crate::tell::granted;
 use crate::tell::line;
 use crate::tell::placed;
-use formed::build_fresh;
+use fresh::build_fresh;
 use model::Call;
 use model::numbers::CLONE;
 use model::numbers::CREATE;

@@ -6,7 +6,7 @@ use crate::administrator::set_file_type;
 use crate::tell::granted;
 use crate::tell::line;
 use crate::tell::part;
-use formed::build_fresh;
+use fresh::build_fresh;
 use model::numbers::CREATE;
 use model::numbers::FILE;
 use model::numbers::FILESYSTEM;

@@ -1,6 +1,6 @@
 // What the scope document asks to be run: the marked examples, every table filled to its last place, and each number once; and what change requests
-// brought, where effective values come from, what enters setpoint lists, how many members a role set has, who moves users, a night at once, and what is
-// kept beside the files.
+// brought, where effective values come from, what enters setpoint lists, how many members a role set has, who moves users, a night at once, what is
+// kept beside the files, and who gives a program its roles.
 // A line tells a trial and what it came to; every group of trials begins with fresh tables.
 use model::layout::ROW_LENGTH;
 
@@ -12,6 +12,7 @@ mod lists;
 mod marked;
 mod night;
 mod numbers;
+mod programs;
 mod sizes;
 mod tell;
 mod users;
@@ -27,6 +28,7 @@ fn main() {
     users::run(&mut t);
     night::run(&mut t);
     beside::run(&mut t);
+    programs::run(&mut t);
     full::run(&mut t);
     numbers::run(&mut t);
     claim::numbers(&mut t);

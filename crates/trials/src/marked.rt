@@ -5,15 +5,14 @@ use crate::administrator::add_role;
 use crate::administrator::clone;
 use crate::administrator::create;
 use crate::administrator::set_default_type;
-use crate::administrator::set_forced;
-use crate::administrator::set_initial;
+use crate::administrator::set_program_roles;
 use crate::administrator::set_user_role;
 use crate::full::chain;
 use crate::tell::climbed;
 use crate::tell::granted;
 use crate::tell::line;
 use crate::tell::process;
-use formed::build_fresh;
+use fresh::build_fresh;
 use model::Call;
 use model::numbers::CHANGE_OWNER;
 use model::numbers::CLONE;
@@ -23,6 +22,7 @@ use model::numbers::DEEPEST;
 use model::numbers::EXECUTE;
 use model::numbers::FILE;
 use model::numbers::FILESYSTEM;
+use model::numbers::INHERIT_PARENT;
 use model::numbers::INHERIT_USER;
 use model::numbers::PROCESS;
 use model::numbers::PROCESS_CHOWN;
@@ -87,16 +87,14 @@ fn default_types(t: &mut [u32]) {
 fn program(t: &mut [u32], initial: u32, forced: u32) {
     let a = create(t, FILE, 0);
     granted(a);
-    granted(set_initial(t, a.place, initial));
-    granted(set_forced(t, a.place, forced));
+    granted(set_program_roles(t, a.place, initial, forced));
 }
 
 // Files 1, 2 and 3, one for each way that a role is given.
 fn programs(t: &mut [u32]) {
     program(t, 7, UP_MIXED);
     program(t, USE_FORCED_ROLE, 9);
-    granted(create(t, FILE, 0));
-    granted(set_forced(t, 3, INHERIT_USER));
+    program(t, INHERIT_PARENT, INHERIT_USER);
 }
 
 // Processes 1 to 4.

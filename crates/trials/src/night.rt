@@ -9,8 +9,8 @@ use crate::tell::line;
 use crate::tell::part;
 use crate::tell::placed;
 use batch::batch;
-use formed::build_fresh;
 use formed::well_formed;
+use fresh::build_fresh;
 use model::Answer;
 use model::Call;
 use model::layout::ROW_LENGTH;
@@ -42,7 +42,7 @@ fn sent(t: &mut [u32], answers: &mut [u8]) -> Answer {
         t,
         b"\x01\x00\x00\x00\x00\x00\0\0\0\0\0\0\0\0\0\0\
           \x14\x00\x00\x01\x02\x01\0\0\0\0\0\0\0\0\0\0\
-          \x16\x00\x00\x00\x00\x00\0\0\0\0\0\0\0\0\0\0\
+          \x0e\x00\x00\x07\x00\x00\0\0\0\0\0\0\0\0\0\0\
           \x14\x00\x01\x00\x00\x06\0\0\0\0\0\0\0\0\0\0\
           \x02\x00\x00\x00\x00\x00\0\0\0\0\0\0\0\0\0\x01\
           \x02\x00\x00\x00\x00\x00\0\0\0\0\0\0\0\0\0\0\
@@ -82,7 +82,7 @@ fn evening_answers(answers: &[u8]) {
         answers,
         1,
     );
-    told(b"item 2, a kind that is none: ", answers, 2);
+    told(b"item 2, kind 14, which is none since W-207: ", answers, 2);
     told(
         b"item 3, process 0 adds CLONE for role 0 to process type 0: ",
         answers,

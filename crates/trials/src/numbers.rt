@@ -4,7 +4,7 @@ use crate::administrator::clone;
 use crate::administrator::create;
 use crate::tell::granted;
 use crate::tell::line;
-use formed::build_fresh;
+use fresh::build_fresh;
 use model::Call;
 use model::layout::OWNER;
 use model::layout::PROCESSES_AT;

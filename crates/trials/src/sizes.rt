@@ -2,7 +2,7 @@
 use crate::administrator::add_role;
 use crate::tell::granted;
 use crate::tell::line;
-use formed::build_fresh;
+use fresh::build_fresh;
 use model::numbers::COMPATIBLE_ROLES;
 use tables::addresses::role_addr;
 use tables::records::role_at;

@@ -7,7 +7,7 @@ use crate::administrator::set_user_role;
 use crate::tell::granted;
 use crate::tell::line;
 use crate::tell::part;
-use formed::build_fresh;
+use fresh::build_fresh;
 use model::Answer;
 use model::Call;
 use model::Change;

@@ -2,15 +2,15 @@
 use crate::administrator::add_right;
 use crate::administrator::create;
 use crate::administrator::set_file_type;
-use crate::administrator::set_forced;
-use crate::administrator::set_initial;
+use crate::administrator::set_program_roles;
 use crate::tell::climbed;
 use crate::tell::granted;
-use formed::build_fresh;
+use fresh::build_fresh;
 use model::numbers::CREATE;
 use model::numbers::DIR;
 use model::numbers::FILE;
 use model::numbers::FILESYSTEM;
+use model::numbers::INHERIT_PARENT;
 use queries::query_forced;
 use queries::query_initial;
 use queries::query_type;
@@ -18,13 +18,13 @@ use queries::query_type;
 // Directory 1, in the root, forces role 9.
 fn forcing(t: &mut [u32]) {
     granted(create(t, DIR, 0));
-    granted(set_forced(t, 1, 9));
+    granted(set_program_roles(t, 1, INHERIT_PARENT, 9));
 }
 
 // Directory 2, in directory 1, has initial role 7.
 fn starting(t: &mut [u32]) {
     granted(create(t, DIR, 1));
-    granted(set_initial(t, 2, 7));
+    granted(set_program_roles(t, 2, 7, INHERIT_PARENT));
 }
 
 // File 3, in directory 2, has type 5.

@@ -27,47 +27,41 @@ set-user-role-requires c κs = search needs
 enum-known-change-4 : tie.Need-enum-known-change-4
 enum-known-change-4 c = search needs
 
-set-initial-requires : tie.Need-set-initial-requires
-set-initial-requires c κs = search needs
+set-program-roles-requires : tie.Need-set-program-roles-requires
+set-program-roles-requires c κs = search needs
 
 enum-known-change-5 : tie.Need-enum-known-change-5
 enum-known-change-5 c = search needs
 
-set-forced-requires : tie.Need-set-forced-requires
-set-forced-requires c κs = search needs
+set-process-forced-requires : tie.Need-set-process-forced-requires
+set-process-forced-requires c κs = search needs
 
 enum-known-change-6 : tie.Need-enum-known-change-6
 enum-known-change-6 c = search needs
 
-set-process-forced-requires : tie.Need-set-process-forced-requires
-set-process-forced-requires c κs = search needs
+set-default-type-requires : tie.Need-set-default-type-requires
+set-default-type-requires c κs = search needs
 
 enum-known-change-7 : tie.Need-enum-known-change-7
 enum-known-change-7 c = search needs
 
-set-default-type-requires : tie.Need-set-default-type-requires
-set-default-type-requires c κs = search needs
+set-role-admin-requires : tie.Need-set-role-admin-requires
+set-role-admin-requires c κs = search needs
 
 enum-known-change-8 : tie.Need-enum-known-change-8
 enum-known-change-8 c = search needs
 
-set-role-admin-requires : tie.Need-set-role-admin-requires
-set-role-admin-requires c κs = search needs
+set-type-requires : tie.Need-set-type-requires
+set-type-requires c κs = search needs
 
 enum-known-change-9 : tie.Need-enum-known-change-9
 enum-known-change-9 c = search needs
 
-set-type-requires : tie.Need-set-type-requires
-set-type-requires c κs = search needs
-
-enum-known-change-10 : tie.Need-enum-known-change-10
-enum-known-change-10 c = search needs
-
 change-right-requires : tie.Need-change-right-requires
 change-right-requires c κs = search needs
 
-enum-known-change-11 : tie.Need-enum-known-change-11
-enum-known-change-11 c = search needs
+enum-known-change-10 : tie.Need-enum-known-change-10
+enum-known-change-10 c = search needs
 
 change-right-requires-2 : tie.Need-change-right-requires-2
 change-right-requires-2 c κs = search needs
@@ -98,56 +92,49 @@ same-length-4 c = search needs
 
 returns-4 : tie.Need-returns-4
 unfolding writingOn
-returns-4 c = rw (c .before .before .before .before .before .change4 .given .1) (c .before .before .set-initial .ensures)
+returns-4 c = rw (c .before .before .before .before .before .change4 .given .1) (c .before .before .set-program-roles .ensures)
 
 same-length-5 : tie.Need-same-length-5
 same-length-5 c = search needs
 
 returns-5 : tie.Need-returns-5
 unfolding writingOn
-returns-5 c = rw (c .before .before .before .before .before .change5 .given .1) (c .before .before .set-forced .ensures)
+returns-5 c = rw (c .before .before .before .before .before .change5 .given .1) (c .before .before .set-process-forced .ensures)
 
 same-length-6 : tie.Need-same-length-6
 same-length-6 c = search needs
 
 returns-6 : tie.Need-returns-6
 unfolding writingOn
-returns-6 c = rw (c .before .before .before .before .before .change6 .given .1) (c .before .before .set-process-forced .ensures)
+returns-6 c = rw (c .before .before .before .before .before .change6 .given .1) (c .before .before .set-default-type .ensures)
 
 same-length-7 : tie.Need-same-length-7
 same-length-7 c = search needs
 
 returns-7 : tie.Need-returns-7
 unfolding writingOn
-returns-7 c = rw (c .before .before .before .before .before .change7 .given .1) (c .before .before .set-default-type .ensures)
+returns-7 c = rw (c .before .before .before .before .before .change7 .given .1) (c .before .before .set-role-admin .ensures)
 
 same-length-8 : tie.Need-same-length-8
 same-length-8 c = search needs
 
 returns-8 : tie.Need-returns-8
 unfolding writingOn
-returns-8 c = rw (c .before .before .before .before .before .change8 .given .1) (c .before .before .set-role-admin .ensures)
+returns-8 c = rw (c .before .before .before .before .before .change8 .given .1) (c .before .before .set-type .ensures)
 
 same-length-9 : tie.Need-same-length-9
 same-length-9 c = search needs
 
 returns-9 : tie.Need-returns-9
-unfolding writingOn
-returns-9 c = rw (c .before .before .before .before .before .change9 .given .1) (c .before .before .set-type .ensures)
+unfolding writingOn rulingOn
+returns-9 c = rw (c .before .before .before .before .before .change9 .given .1) (c .before .before .change-right .ensures)
 
 same-length-10 : tie.Need-same-length-10
 same-length-10 c = search needs
 
 returns-10 : tie.Need-returns-10
 unfolding writingOn rulingOn
-returns-10 c = rw (c .before .before .before .before .before .change10 .given .1) (c .before .before .change-right .ensures)
-
-same-length-11 : tie.Need-same-length-11
-same-length-11 c = search needs
-
-returns-11 : tie.Need-returns-11
-unfolding writingOn rulingOn
-returns-11 c = rw (c .before .before .before .before .before .change11 .given .1) (c .before .before .change-right2 .ensures)
+returns-10 c = rw (c .before .before .before .before .before .change10 .given .1) (c .before .before .change-right2 .ensures)
 
 pub write-spec : {M : Type 1} → statement M
 write-spec =
@@ -160,20 +147,18 @@ write-spec =
     enum-known-change-3
     set-user-role-requires
     enum-known-change-4
-    set-initial-requires
+    set-program-roles-requires
     enum-known-change-5
-    set-forced-requires
-    enum-known-change-6
     set-process-forced-requires
-    enum-known-change-7
+    enum-known-change-6
     set-default-type-requires
-    enum-known-change-8
+    enum-known-change-7
     set-role-admin-requires
-    enum-known-change-9
+    enum-known-change-8
     set-type-requires
-    enum-known-change-10
+    enum-known-change-9
     change-right-requires
-    enum-known-change-11
+    enum-known-change-10
     change-right-requires-2
     same-length
     returns
@@ -194,6 +179,4 @@ write-spec =
     same-length-9
     returns-9
     same-length-10
-    returns-10
-    same-length-11
-    returns-11)
+    returns-10)

@@ -13,7 +13,7 @@ has-right-requires c κs = search needs
 
 returns : tie.Need-returns
 unfolding may
-returns c = cc
+returns c = simp (c .has-right .ensures, c .before .process-at .ensures)
 
 pub may-spec : {M : Type 1} → statement M
 may-spec = tie.close (tie.spec process-at-requires has-right-requires returns)

@@ -11,7 +11,7 @@ may-requires : tie.Need-may-requires
 may-requires c κs = search needs
 
 returns : tie.Need-returns
-returns c = cc
+returns c = simp (c .may .ensures, c .before .process-at .ensures)
 
 pub may-self-spec : {M : Type 1} → statement M
 may-self-spec = tie.close (tie.spec process-at-requires may-requires returns)

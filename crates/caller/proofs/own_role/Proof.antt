@@ -13,7 +13,7 @@ role-at-requires c κs = search needs
 
 returns : tie.Need-returns
 unfolding ownRole
-returns c = cc
+returns c = simp (c .role-at .ensures, c .before .process-at .ensures)
 
 pub own-role-spec : {M : Type 1} → statement M
 own-role-spec = tie.close (tie.spec process-at-requires role-at-requires returns)

@@ -10,7 +10,7 @@ own-role-requires c κs = search needs
 
 returns : tie.Need-returns
 unfolding passes
-returns c = cc
+returns c = simp (c .before .own-role .ensures)
 
 pub passes-spec : {M : Type 1} → statement M
 passes-spec = tie.close (tie.spec own-role-requires returns)

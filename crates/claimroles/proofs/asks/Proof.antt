@@ -31,7 +31,7 @@ stays-in-requires c κs = search needs
 
 returns : tie.Need-returns
 unfolding asks
-returns c = rw (eq-eqb _ 3 (c .before .before .if1 .taken)) (cc)
+returns c = rw (eq-eqb _ 3 (c .before .before .if1 .taken), c .spares .ensures, c .before .word .ensures)
 
 returns-2 : tie.Need-returns-2
 unfolding asks

@@ -13,7 +13,7 @@ has-requires-3 : tie.Need-has-requires-3
 has-requires-3 c κs = search needs
 
 returns : tie.Need-returns
-returns c = cc
+returns c = simp (c .has3 .ensures, c .before .has2 .ensures, c .before .before .has .ensures)
 
 pub assigns-spec : {M : Type 1} → statement M
 assigns-spec = tie.close (tie.spec has-requires has-requires-2 has-requires-3 returns)

@@ -1,9 +1,9 @@
 -- The outer invariant: no role below r breaks the rule; the inner one: role r has no ASSIGN to a type below k. Either walk is left with 2.
 use Rattle.claimroles.proofs.c2.Statement.{statement}
 use Rattle.claimroles.proofs.c2.Tie as tie
-use Prim.Native.Nat.{ℕ, _≤_, _<_, _-_}
+use Prim.Native.Nat.{_≤_, _<_, _-_}
 use mathlib.Core.Path.{_≡_, refl, sym, _∙_}
-use mathlib.Core.Bool.{Bool, true, false, not, _&&_, and-false}
+use mathlib.Core.Bool.{true, not, and-false}
 use native.Mathlib.Omega.{arith}
 use borrow.Author.Needs.{needs}
 use Rattle.sets.specs.Below.{allBelow}

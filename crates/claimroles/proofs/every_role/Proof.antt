@@ -38,7 +38,11 @@ loop-less : tie.Need-loop-less Inv-loop μ-loop
 loop-less c = search needs
 
 loop-again : tie.Need-loop-again Inv-loop μ-loop
-loop-again c = (rw all-next (cc), search needs)
+loop-again c =
+    let loop = c .before .before .before in (
+      rw (all-next, c .asks .ensures, c .before .has .ensures, loop .before .roles-in .ensures, loop .loop .inv .0),
+      search needs,
+    )
 
 unless-requires : tie.Need-unless-requires Inv-loop μ-loop
 unless-requires c κs = search needs
@@ -46,8 +50,7 @@ unless-requires c κs = search needs
 returns : tie.Need-returns Inv-loop μ-loop
 returns c =
     let e : c .before .before .loop .r ≡ 32 = omega arith in
-    let h = rw e at (c .before .before .loop .inv .0) in
-    cc
+    rw (c .unless .ensures, rw e at (c .before .before .loop .inv .0))
 
 pub every-role-spec : {M : Type 1} → statement M
 every-role-spec =

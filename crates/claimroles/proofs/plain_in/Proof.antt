@@ -7,7 +7,7 @@ has-requires : tie.Need-has-requires
 has-requires c κs = search needs
 
 returns : tie.Need-returns
-returns c = cc
+returns c = simp (c .has .ensures)
 
 pub plain-in-spec : {M : Type 1} → statement M
 plain-in-spec = tie.close (tie.spec has-requires returns)

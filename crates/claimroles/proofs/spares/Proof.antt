@@ -18,7 +18,13 @@ role-at-requires c κs = search needs
 
 returns : tie.Need-returns
 unfolding spares
-returns c = cc
+returns c =
+    simp (
+      c .before .role-at .ensures,
+      c .before .before .has-right3 .ensures,
+      c .before .before .before .has-right2 .ensures,
+      c .before .before .before .before .has-right .ensures,
+    )
 
 pub spares-spec : {M : Type 1} → statement M
 spares-spec =

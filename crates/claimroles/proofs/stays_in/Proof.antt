@@ -13,7 +13,8 @@ plain-in-requires-3 : tie.Need-plain-in-requires-3
 plain-in-requires-3 c κs = search needs
 
 returns : tie.Need-returns
-returns c = cc
+returns c =
+    simp (c .plain-in3 .ensures, c .before .plain-in2 .ensures, c .before .before .plain-in .ensures)
 
 pub stays-in-spec : {M : Type 1} → statement M
 stays-in-spec =

@@ -44,7 +44,10 @@ loop-less c = search needs
 loop-again : tie.Need-loop-again Inv-loop μ-loop
 loop-again c =
     let h = sym (c .before .has .ensures) in
-    ⊎-elim (λ w. (rw (union-next, h ∙ w .0 .taken) (cc), search needs)) (λ w. (rw (union-next, h ∙ w .0 .left) (cc), search needs))
+    let i = c .before .before .before .loop .inv in
+    ⊎-elim
+    (λ w. (rw (union-next, h ∙ w .0 .taken, w .2, w .1 .ensures, i .0), search needs))
+    (λ w. (rw (union-next, h ∙ w .0 .left, w .1) (i .0), search needs))
     (c .if1 .came)
 
 inside-requires : tie.Need-inside-requires Inv-loop μ-loop
@@ -54,7 +57,7 @@ returns : tie.Need-returns Inv-loop μ-loop
 unfolding closed
 returns c =
     let e : c .before .before .loop .k ≡ 32 = omega arith in
-    rw (← e) (cc)
+    rw (c .inside .ensures, rw e at (c .before .before .loop .inv .0))
 
 pub closed-spec : {M : Type 1} → statement M
 closed-spec =

@@ -1,10 +1,9 @@
 -- The part of the row from the role's rights on has them; past the end of the row there are none.
 -- Assumes nothing.
-use Prim.Native.Nat.{ℕ, _+_}
+use Prim.Native.Nat.{_+_}
 use mathlib.Core.Path.{_≡_, sym, _∙_}
 use native.Mathlib.Omega.{arith}
 use borrow.Author.Needs.{needs}
-use Rattle.sets.specs.Sets.{joined}
 use Rattle.sets.proofs.Sets.{joined-none}
 use Rattle.model.specs.Words.{_!_}
 use Rattle.model.specs.Layout.{rightsAddr}

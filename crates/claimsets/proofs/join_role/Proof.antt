@@ -2,7 +2,7 @@
 use Rattle.claimsets.proofs.join_role.Statement.{statement}
 use Rattle.claimsets.proofs.join_role.Tie as tie
 use Prim.Native.Nat.{ℕ, _≤_, _<_, _-_}
-use mathlib.Core.Path.{_≡_, refl, sym, _∙_}
+use mathlib.Core.Path.{_≡_, refl, _∙_}
 use native.Mathlib.Omega.{arith}
 use borrow.Author.Count.{below-none, below-more}
 use borrow.Author.Needs.{needs}

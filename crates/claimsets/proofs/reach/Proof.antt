@@ -52,7 +52,10 @@ loop-again : tie.Need-loop-again Inv-loop μ-loop
 unfolding collect
 loop-again c =
     let h = sym (c .before .has .ensures) in
-    ⊎-elim (λ w. (rw (add-one, h ∙ w .0 .taken) (cc), search needs)) (λ w. (rw (add-one, h ∙ w .0 .left) (cc), search needs))
+    let i = c .before .before .before .loop .inv in
+    ⊎-elim
+    (λ w. (rw (add-one, h ∙ w .0 .taken, w .2, w .1 .ensures, i .0), search needs))
+    (λ w. (rw (add-one, h ∙ w .0 .left, w .1) (i .0), search needs))
     (c .if1 .came)
 
 returns : tie.Need-returns Inv-loop μ-loop

@@ -28,7 +28,17 @@ occupied-requires-2 c κs = search needs
 
 returns : tie.Need-returns
 unfolding tablesOk
-returns c = cc
+returns c =
+    let tables = c .before .before in
+    simp (
+      c .occupied2 .ensures,
+      c .before .occupied .ensures,
+      tables .files-ok .ensures,
+      tables .before .ipcs-ok .ensures,
+      tables .before .before .roles-ok .ensures,
+      tables .before .before .before .users-ok .ensures,
+      tables .before .before .before .before .processes-ok .ensures,
+    )
 
 pub tables-ok-spec : {M : Type 1} → statement M
 tables-ok-spec =

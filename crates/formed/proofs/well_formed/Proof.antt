@@ -7,7 +7,7 @@ use lib.ListN.{length-take}
 use Rattle.model.specs.WellFormed.{wellFormed}
 use Rattle.model.specs.Layout.{rowLength}
 use Rattle.formed.proofs.Whole.{full-take}
-use Rattle.formed.proofs.Files.{exact}
+use Rattle.formed.proofs.Exact.{exact}
 use Rattle.formed.proofs.well_formed.Statement.{statement}
 use Rattle.formed.proofs.well_formed.Tie as tie
 

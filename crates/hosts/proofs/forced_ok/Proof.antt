@@ -1,5 +1,6 @@
 -- Each arm is the definition's case.
 -- Assumes nothing.
+use mathlib.Core.Path.{refl}
 use borrow.Author.Needs.{needs}
 use Rattle.hosts.proofs.forced_ok.Statement.{statement}
 use Rattle.hosts.proofs.forced_ok.Tie as tie
@@ -20,7 +21,7 @@ enum-told-4 : tie.Need-enum-told-4
 enum-told-4 c = search needs
 
 returns : tie.Need-returns
-returns c = cc
+returns c = rw (c .before .f .given .1) refl
 
 returns-2 : tie.Need-returns-2
 returns-2 c = search needs

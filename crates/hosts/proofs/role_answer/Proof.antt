@@ -37,7 +37,20 @@ first-requires-3 c κs = search needs
 
 returns : tie.Need-returns
 unfolding roleNo
-returns c = cc
+returns c =
+    let inner = c .before .before .before in
+    simp (
+      c .first3 .ensures,
+      c .before .unless4 .ensures,
+      c .before .before .well-formed .ensures,
+      inner .first2 .ensures,
+      inner .before .unless3 .ensures,
+      inner .before .before .has .ensures,
+      inner .before .before .before .first .ensures,
+      inner .before .before .before .before .unless2 .ensures,
+      inner .before .before .before .before .before .unless .ensures,
+      inner .before .before .before .before .before .before .before .role-at .ensures,
+    )
 
 pub role-answer-spec : {M : Type 1} → statement M
 role-answer-spec =

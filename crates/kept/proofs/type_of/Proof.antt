@@ -21,11 +21,11 @@ returns c = rw (eq-eqb _ _ (c .before .if1 .taken)) (c .kept-at .ensures)
 
 returns-2 : tie.Need-returns-2
 unfolding typeOf
-returns-2 c = let b = c .before in rw (ne-eqb _ _ (b .before .if1 .left), eq-eqb _ _ (b .if2 .taken)) (cc)
+returns-2 c = let b = c .before in rw (ne-eqb _ _ (b .before .if1 .left), eq-eqb _ _ (b .if2 .taken)) (simp (c .process-at .ensures))
 
 returns-3 : tie.Need-returns-3
 unfolding typeOf
-returns-3 c = let b = c .before in rw (ne-eqb _ _ (b .before .if1 .left), ne-eqb _ _ (b .if2 .left)) (cc)
+returns-3 c = let b = c .before in rw (ne-eqb _ _ (b .before .if1 .left), ne-eqb _ _ (b .if2 .left)) (simp (c .ipc-at .ensures))
 
 pub type-of-spec : {M : Type 1} → statement M
 type-of-spec =

@@ -5,7 +5,7 @@ use borrow.Author.Needs.{needs}
 use borrow.Author.Tests.{eq-eqb, ne-eqb}
 use Rattle.model.specs.Layout.{rowLength}
 use Rattle.formed.proofs.Whole.{full-length, full-take, full-drop}
-use Rattle.kinds.specs.Kinds.{actByKind}
+use Rattle.kinds.specs.ByKind.{actByKind}
 use Rattle.kinds.proofs.act_by_kind.Statement.{statement}
 use Rattle.kinds.proofs.act_by_kind.Tie as tie
 

@@ -4,10 +4,10 @@ use borrow.Author.Needs.{needs}
 use Rattle.processes.proofs.change_owner.Statement.{statement}
 use Rattle.processes.proofs.change_owner.Tie as tie
 use mathlib.Core.Path.{refl, _∙_}
-use Rattle.model.specs.Records.{putProcess}
 use Rattle.model.specs.Calls.{changeOwnerNo, changeOwnerRow}
 use Rattle.model.specs.Step.{ruling}
 use Rattle.model.proofs.Decided.{decides}
+use Rattle.processes.proofs.Put.{puts-process}
 
 may-self-requires : tie.Need-may-self-requires
 may-self-requires c κs = search needs
@@ -46,7 +46,7 @@ same-length : tie.Need-same-length
 same-length c = search needs
 
 returns : tie.Need-returns
-unfolding ruling changeOwnerNo changeOwnerRow putProcess
+unfolding ruling changeOwnerNo changeOwnerRow
 returns c =
     let decide-words = c .before .before in
     let process-addr = decide-words .before .before in
@@ -60,7 +60,8 @@ returns c =
     let may-self = unless .before in
     decide-words .decide-words .ensures
     ∙ decides _ _ _ _ _ _ _ (simp (unless .unless .ensures, may-self .may-self .ensures)) refl
-    (simp (process-addr .process-addr .ensures, process-words .process-words .ensures, chowned .chowned .ensures, process-at .process-at .ensures, own-role .own-role .ensures, role-at .role-at .ensures, role-under .role-under .ensures))
+    (puts-process _ _ _ _ _ _ (process-addr .process-addr .ensures) (process-words .process-words .ensures)
+    (chowned .chowned .ensures ∙ simp (process-at .process-at .ensures, own-role .own-role .ensures, role-at .role-at .ensures, role-under .role-under .ensures)))
 
 pub change-owner-spec : {M : Type 1} → statement M
 change-owner-spec =

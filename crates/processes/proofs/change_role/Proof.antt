@@ -1,10 +1,10 @@
 -- The one test, and the process of rule 15 at the place of the caller.
 -- Assumes nothing.
 use mathlib.Core.Path.{refl, _∙_}
-use Rattle.model.specs.Records.{putProcess}
 use Rattle.model.specs.Calls.{changeRoleNo, changeRoleRow}
 use Rattle.model.specs.Step.{ruling}
 use Rattle.model.proofs.Decided.{decides}
+use Rattle.processes.proofs.Put.{puts-process}
 use borrow.Author.Needs.{needs}
 use Rattle.processes.proofs.change_role.Statement.{statement}
 use Rattle.processes.proofs.change_role.Tie as tie
@@ -40,7 +40,7 @@ same-length : tie.Need-same-length
 same-length c = search needs
 
 returns : tie.Need-returns
-unfolding ruling changeRoleNo changeRoleRow putProcess
+unfolding ruling changeRoleNo changeRoleRow
 returns c =
     let decide-words = c .before .before in
     let process-addr = decide-words .before .before in
@@ -52,7 +52,8 @@ returns c =
     let own-role = has .before .before in
     decide-words .decide-words .ensures
     ∙ decides _ _ _ _ _ _ _ (simp (unless .unless .ensures, has .has .ensures, own-role .own-role .ensures)) refl
-    (simp (process-addr .process-addr .ensures, process-words .process-words .ensures, with-role .with-role .ensures, process-at .process-at .ensures))
+    (puts-process _ _ _ _ _ _ (process-addr .process-addr .ensures) (process-words .process-words .ensures)
+    (with-role .with-role .ensures ∙ simp (process-at .process-at .ensures)))
 
 pub change-role-spec : {M : Type 1} → statement M
 change-role-spec =

@@ -1,10 +1,10 @@
 -- The tests in their order, and the child of rules 2 and 8 at the lowest free place.
 -- Assumes nothing.
 use mathlib.Core.Path.{_∙_}
-use Rattle.model.specs.Records.{putProcess}
 use Rattle.model.specs.Calls.{cloneNo, cloneRow}
 use Rattle.model.specs.Step.{ruling}
 use Rattle.model.proofs.Decided.{decides}
+use Rattle.processes.proofs.Put.{puts-process}
 use borrow.Author.Needs.{needs}
 use Rattle.processes.proofs.clone.Statement.{statement}
 use Rattle.processes.proofs.clone.Tie as tie
@@ -40,7 +40,7 @@ same-length : tie.Need-same-length
 same-length c = search needs
 
 returns : tie.Need-returns
-unfolding ruling cloneNo cloneRow putProcess
+unfolding ruling cloneNo cloneRow
 returns c =
     let decide-words = c .before .before in
     let process-addr = decide-words .before .before in
@@ -52,7 +52,8 @@ returns c =
     let free-place = clone-no .before .before in
     decide-words .decide-words .ensures
     ∙ decides _ _ _ _ _ _ _ (simp (clone-no .clone-no .ensures, free-place .free-place .ensures)) (free-place .free-place .ensures)
-    (simp (process-addr .process-addr .ensures, process-words .process-words .ensures, cloned .cloned .ensures, process-at .process-at .ensures, own-role .own-role .ensures, free-place .free-place .ensures))
+    (puts-process _ _ _ _ _ _ (simp (process-addr .process-addr .ensures, free-place .free-place .ensures)) (process-words .process-words .ensures)
+    (cloned .cloned .ensures ∙ simp (process-at .process-at .ensures, own-role .own-role .ensures)))
 
 pub clone-spec : {M : Type 1} → statement M
 clone-spec =

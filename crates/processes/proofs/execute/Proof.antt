@@ -1,10 +1,10 @@
 -- The tests in their order, and the process of rules 10, 18, 20 and 21 at the place of the caller.
 -- Assumes nothing.
 use mathlib.Core.Path.{refl, _∙_}
-use Rattle.model.specs.Records.{putProcess}
 use Rattle.model.specs.Calls.{executeRow}
 use Rattle.model.specs.Step.{ruling}
 use Rattle.model.proofs.Decided.{decides}
+use Rattle.processes.proofs.Put.{puts-process}
 use borrow.Author.Needs.{needs}
 use Rattle.processes.proofs.execute.Statement.{statement}
 use Rattle.processes.proofs.execute.Tie as tie
@@ -52,7 +52,7 @@ same-length : tie.Need-same-length
 same-length c = search needs
 
 returns : tie.Need-returns
-unfolding ruling executeRow putProcess
+unfolding ruling executeRow
 returns c =
     let decide-words = c .before .before in
     let process-addr = decide-words .before .before in
@@ -68,7 +68,8 @@ returns c =
     let execute-no = process-at .before .before in
     decide-words .decide-words .ensures
     ∙ decides _ _ _ _ _ _ _ (execute-no .execute-no .ensures) refl
-    (simp (process-addr .process-addr .ensures, process-words .process-words .ensures, executed .executed .ensures, own-role .own-role .ensures, user-role .user-role .ensures, forced-of .forced-of .ensures, kept-at2 .kept-at2 .ensures, initial-of .initial-of .ensures, kept-at .kept-at .ensures, process-at .process-at .ensures))
+    (puts-process _ _ _ _ _ _ (process-addr .process-addr .ensures) (process-words .process-words .ensures)
+    (executed .executed .ensures ∙ simp (own-role .own-role .ensures, user-role .user-role .ensures, forced-of .forced-of .ensures, kept-at2 .kept-at2 .ensures, initial-of .initial-of .ensures, kept-at .kept-at .ensures, process-at .process-at .ensures)))
 
 pub execute-spec : {M : Type 1} → statement M
 execute-spec =

@@ -25,7 +25,17 @@ first-requires c κs = search needs
 
 returns : tie.Need-returns
 unfolding executeNo
-returns c = cc
+returns c =
+    let may = c .before .before in
+    let unless = may .before .before in
+    simp (
+      c .first .ensures,
+      c .before .unless2 .ensures,
+      may .may .ensures,
+      may .before .kept-at .ensures,
+      unless .unless .ensures,
+      unless .before .file-word .ensures,
+    )
 
 pub execute-no-spec : {M : Type 1} → statement M
 execute-no-spec =

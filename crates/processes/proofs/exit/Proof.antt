@@ -1,10 +1,10 @@
 -- The one test, and zeros at the place of the caller.
 -- Assumes nothing.
 use mathlib.Core.Path.{refl, _∙_}
-use Rattle.model.specs.Records.{putProcess}
 use Rattle.model.specs.Calls.{exitNo, exitRow}
 use Rattle.model.specs.Step.{ruling}
 use Rattle.model.proofs.Decided.{decides}
+use Rattle.processes.proofs.Put.{puts-process}
 use borrow.Author.Needs.{needs}
 use Rattle.processes.proofs.exit.Statement.{statement}
 use Rattle.processes.proofs.exit.Tie as tie
@@ -31,7 +31,7 @@ same-length : tie.Need-same-length
 same-length c = search needs
 
 returns : tie.Need-returns
-unfolding ruling exitNo exitRow putProcess
+unfolding ruling exitNo exitRow
 returns c =
     let decide-words = c .before .before in
     let process-addr = decide-words .before .before in
@@ -40,7 +40,8 @@ returns c =
     let unless = free-process .before in
     decide-words .decide-words .ensures
     ∙ decides _ _ _ _ _ _ _ (unless .unless .ensures) refl
-    (simp (process-addr .process-addr .ensures, process-words .process-words .ensures, free-process .free-process .ensures))
+    (puts-process _ _ _ _ _ _ (process-addr .process-addr .ensures) (process-words .process-words .ensures)
+    (free-process .free-process .ensures))
 
 pub exit-spec : {M : Type 1} → statement M
 exit-spec =

@@ -16,7 +16,7 @@ chown-role-requires c κs = search needs
 
 returns : tie.Need-returns
 unfolding roleUnder
-returns c = cc
+returns c = simp (c .chown-role .ensures, c .before .user-role .ensures, c .before .before .process-at .ensures)
 
 pub role-under-spec : {M : Type 1} → statement M
 role-under-spec =

@@ -16,7 +16,7 @@ first-requires : tie.Need-first-requires
 first-requires c κs = search needs
 
 returns : tie.Need-returns
-returns c = cc
+returns c = simp (c .first .ensures, c .before .unless2 .ensures, c .before .before .occupied .ensures, c .before .before .before .unless .ensures)
 
 pub look-no-spec : {M : Type 1} → statement M
 look-no-spec = tie.close (tie.spec unless-requires occupied-requires unless-requires-2 first-requires returns)

@@ -1,5 +1,6 @@
 -- In each case of the call the test is that case of the definition.
 -- Assumes nothing.
+use mathlib.Core.Path.{refl}
 use borrow.Author.Needs.{needs}
 use Rattle.caller.proofs.ranges.ranged.Statement.{statement}
 use Rattle.caller.proofs.ranges.ranged.Tie as tie
@@ -53,25 +54,25 @@ returns-3 : tie.Need-returns-3
 returns-3 c = search needs
 
 returns-4 : tie.Need-returns-4
-returns-4 c = cc
+returns-4 c = rw (c .before .call2 .given .1) refl
 
 returns-5 : tie.Need-returns-5
-returns-5 c = cc
+returns-5 c = rw (c .before .call3 .given .1) refl
 
 returns-6 : tie.Need-returns-6
-returns-6 c = cc
+returns-6 c = rw (c .before .call4 .given .1) refl
 
 returns-7 : tie.Need-returns-7
-returns-7 c = rw (c .before .call5 .given .1) (cc)
+returns-7 c = rw (c .before .call5 .given .1) refl
 
 returns-8 : tie.Need-returns-8
-returns-8 c = cc
+returns-8 c = rw (c .before .call6 .given .1) refl
 
 returns-9 : tie.Need-returns-9
 returns-9 c = search needs
 
 returns-10 : tie.Need-returns-10
-returns-10 c = cc
+returns-10 c = rw (c .before .call7 .given .1) refl
 
 returns-11 : tie.Need-returns-11
 returns-11 c = search needs

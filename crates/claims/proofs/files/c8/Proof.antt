@@ -18,7 +18,13 @@ has-requires c κs = search needs
 
 returns : tie.Need-returns
 unfolding C8By
-returns c = cc
+returns c =
+    simp (
+      c .has .ensures,
+      c .before .user-role .ensures,
+      c .before .before .process-at .ensures,
+      c .before .before .before .word .ensures,
+    )
 
 pub c8-spec : {M : Type 1} → statement M
 c8-spec =

@@ -34,7 +34,9 @@ loop-less : tie.Need-loop-less Inv-loop μ-loop
 loop-less c = search needs
 
 loop-again : tie.Need-loop-again Inv-loop μ-loop
-loop-again c = (rw all-next (cc), search needs)
+loop-again c =
+    let i = c .before .before .before .loop .inv in
+    (rw (all-next, c .has .ensures, c .before .user-role .ensures, i .0), search needs)
 
 returns : tie.Need-returns Inv-loop μ-loop
 unfolding everyUser

@@ -1,6 +1,5 @@
 -- Each return goes by the tests that led there.
 -- Assumes nothing.
-use mathlib.Core.Path.{_≡_, refl}
 use borrow.Author.Tests.{eq-eqb, ne-eqb}
 use Rattle.model.specs.Numbers.{DIR}
 use Rattle.claims.specs.Parts.{lastClosed}

@@ -13,7 +13,8 @@ forced-word-requires : tie.Need-forced-word-requires
 forced-word-requires c κs = search needs
 
 returns : tie.Need-returns
-returns c = cc
+returns c =
+    simp (c .forced-word .ensures, c .before .process-at .ensures, c .before .before .word .ensures)
 
 pub own-forced-spec : {M : Type 1} → statement M
 own-forced-spec =

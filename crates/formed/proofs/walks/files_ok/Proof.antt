@@ -9,7 +9,7 @@ use Rattle.sets.specs.Below.{allBelow}
 use Rattle.sets.proofs.Below.{all-next, all-miss}
 use Rattle.model.specs.Numbers.{FILES}
 use Rattle.model.specs.WellFormed.{fileOk}
-use Rattle.formed.specs.Steps.{stepOk}
+use Rattle.fitting.specs.Steps.{stepOk}
 use Rattle.formed.proofs.walks.files_ok.Statement.{statement}
 use Rattle.formed.proofs.walks.files_ok.Tie as tie
 

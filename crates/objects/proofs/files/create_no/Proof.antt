@@ -35,7 +35,21 @@ first-requires-3 : tie.Need-first-requires-3
 first-requires-3 c κs = search needs
 
 returns : tie.Need-returns
-returns c = cc
+returns c =
+    let room = c .before .before in
+    let parent = room .before .before in
+    simp (
+      c .first3 .ensures,
+      c .before .first2 .ensures,
+      room .unless4 .ensures,
+      room .before .unless3 .ensures,
+      parent .file-word .ensures,
+      parent .before .first .ensures,
+      parent .before .before .unless2 .ensures,
+      parent .before .before .before .unless .ensures,
+      parent .before .before .before .before .may .ensures,
+      parent .before .before .before .before .before .kept-at .ensures,
+    )
 
 pub create-no-spec : {M : Type 1} → statement M
 create-no-spec =

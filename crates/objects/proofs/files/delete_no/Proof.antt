@@ -34,7 +34,20 @@ first-requires-2 c κs = search needs
 
 returns : tie.Need-returns
 unfolding deleteNo
-returns c = cc
+returns c =
+    let numbers = c .before .before in
+    let tests = numbers .before .before .before in
+    simp (
+      c .first2 .ensures,
+      c .before .first .ensures,
+      numbers .unless3 .ensures,
+      numbers .before .unless2 .ensures,
+      numbers .before .before .unless .ensures,
+      tests .occupied .ensures,
+      tests .before .removable .ensures,
+      tests .before .before .may .ensures,
+      tests .before .before .before .kept-at .ensures,
+    )
 
 pub delete-no-spec : {M : Type 1} → statement M
 delete-no-spec =

@@ -9,7 +9,7 @@ chown-type-requires c κs = search needs
 
 returns : tie.Need-returns
 unfolding chowned
-returns c = cc
+returns c = simp (c .chown-type .ensures)
 
 pub chowned-spec : {M : Type 1} → statement M
 chowned-spec = tie.close (tie.spec chown-type-requires returns)

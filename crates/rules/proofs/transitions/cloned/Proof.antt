@@ -9,7 +9,7 @@ default-or-requires c κs = search needs
 
 returns : tie.Need-returns
 unfolding cloned
-returns c = cc
+returns c = simp (c .default-or .ensures)
 
 pub cloned-spec : {M : Type 1} → statement M
 cloned-spec = tie.close (tie.spec default-or-requires returns)

@@ -15,7 +15,7 @@ default-or-requires c κs = search needs
 
 returns : tie.Need-returns
 unfolding executed
-returns c = cc
+returns c = simp (c .default-or .ensures, c .before .initial-role .ensures, c .before .before .forced-role .ensures)
 
 pub executed-spec : {M : Type 1} → statement M
 executed-spec =

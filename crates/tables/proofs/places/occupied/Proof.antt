@@ -12,7 +12,7 @@ word-requires c κs = search needs
 
 returns : tie.Need-returns
 unfolding occupied
-returns c = cc
+returns c = simp (c .word .ensures, c .before .place-addr .ensures)
 
 pub occupied-spec : {M : Type 1} → statement M
 occupied-spec = tie.close (tie.spec place-addr-requires word-requires returns)

@@ -15,7 +15,7 @@ word-requires c κs = search needs
 
 returns : tie.Need-returns
 unfolding fileWord
-returns c = cc
+returns c = simp (c .word .ensures, c .before .file-addr .ensures)
 
 pub file-word-spec : {M : Type 1} → statement M
 file-word-spec = tie.close (tie.spec file-addr-requires add-word word-requires returns)

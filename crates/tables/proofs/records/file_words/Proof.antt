@@ -14,7 +14,7 @@ forced-word-requires : tie.Need-forced-word-requires
 forced-word-requires c κs = search needs
 
 returns : tie.Need-returns
-returns c = cc
+returns c = simp (c .forced-word .ensures, c .before .initial-word .ensures, c .before .before .kind-word .ensures)
 
 pub file-words-spec : {M : Type 1} → statement M
 file-words-spec =

@@ -15,7 +15,7 @@ word-requires c κs = search needs
 
 returns : tie.Need-returns
 unfolding keptAt
-returns c = cc
+returns c = simp (c .word .ensures, c .before .kept-addr .ensures)
 
 pub kept-at-spec : {M : Type 1} → statement M
 kept-at-spec = tie.close (tie.spec kept-addr-requires add-word word-requires returns)

@@ -21,7 +21,7 @@ word-requires c κs = search needs
 
 returns : tie.Need-returns
 unfolding fileWord
-returns c = cc
+returns c = simp (c .word .ensures, c .before .file-addr .ensures)
 
 pub own-value-spec : {M : Type 1} → statement M
 own-value-spec =

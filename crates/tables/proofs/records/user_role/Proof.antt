@@ -12,7 +12,7 @@ word-requires c κs = search needs
 
 returns : tie.Need-returns
 unfolding userRole
-returns c = cc
+returns c = simp (c .word .ensures, c .before .user-addr .ensures)
 
 pub user-role-spec : {M : Type 1} → statement M
 user-role-spec = tie.close (tie.spec user-addr-requires word-requires returns)

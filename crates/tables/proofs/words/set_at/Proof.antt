@@ -8,7 +8,7 @@ word-requires : tie.Need-word-requires
 word-requires c κs = search needs
 
 returns : tie.Need-returns
-returns c = cc
+returns c = simp (c .word .ensures)
 
 pub set-at-spec : {M : Type 1} → statement M
 set-at-spec = tie.close (tie.spec word-requires returns)
