@@ -1,6 +1,8 @@
 // The administration calls (rules 23 to 34, H4, H5 and H7 to H11), each by a live caller with numbers in range (`monitor::act` has tested that).
 // Each decides a number, and where that is 0 writes a word of the row, a program's roles two, and what is kept of them beside the files; it answers
 // and leaves what the ruling says, on any row.
+#![tactic(auto)]
+
 ghost use Rattle.std.specs.Prelude.{◌≡◌};
 ghost use Rattle.model.specs.Layout.{KEPT-WORDS};
 ghost use Rattle.model.specs.Outcome.{outcome, carry_out};
@@ -15,7 +17,7 @@ use model::numbers::FILESYSTEM;
 use model::{Answer, Change};
 
 // What a change sets of a file, where `set` says that it sets anything: its type, or a program's two roles.
-#[derive(Drop)]
+#[derive(Clone, Copy)]
 pub struct FileValues {
     pub set: bool,
     pub roles: bool,

@@ -1,5 +1,7 @@
 // The administration calls on objects (rules 27, 28, 29 and 32, H4, H7, H8 and H10): the initial and forced values of a file, the forced value of a
 // process, the type of any object. Each decides a number, and where that is 0 writes its words; what is kept of a file `administration` then moves.
+#![tactic(auto)]
+
 ghost use Rattle.std.specs.Prelude.{◌+◌, ◌≡◌, [], ◌∷◌, set};
 ghost use Rattle.model.specs.declared.Change.{Change};
 ghost use Rattle.model.specs.Layout.{INITIAL, file_addr};

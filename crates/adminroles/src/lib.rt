@@ -1,5 +1,7 @@
 // The administration calls on roles, users and rights (rules 23 to 26, 30, 33 and 34, H4, H5, H9 and H11): each decides a number, and where that is 0
 // writes one word.
+#![tactic(auto)]
+
 ghost use Rattle.std.specs.Prelude.{◌≡◌};
 ghost use Rattle.model.specs.declared.Change.{Change};
 ghost use Rattle.model.specs.Words.{◌!◌};

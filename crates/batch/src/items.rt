@@ -8,7 +8,7 @@ ghost use Rattle.batch.specs.Batch.{items};
 pub const ITEM_BYTES: usize = 16;
 
 // A kind, a caller and numbers, and whether all that stands past them is 0.
-#[derive(Drop)]
+#[derive(Clone, Copy)]
 pub struct Item {
     pub kind: u32,
     pub caller: u32,

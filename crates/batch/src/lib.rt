@@ -1,5 +1,7 @@
 // A night's calls at once (W-205). One function sees what was sent, one the tables, one the answers; the loop alone has all three. The tables are
 // tested once: every call keeps them well formed.
+#![tactic(auto)]
+
 ghost use Rattle.std.specs.Prelude.{◌≡◌, true, cond, [], ◌∷◌, ◌+◌, ◌*◌, ◌%◌, ◌<◌, ◌≤◌, length};
 ghost use Rattle.model.specs.Outcome.{outcome, refusing};
 ghost use Rattle.model.specs.WellFormed.{well_formed};

@@ -1,4 +1,6 @@
 // The process that makes a call: whether it may ask at all, its own role, and what that role allows.
+#![tactic(auto)]
+
 ghost use Rattle.std.specs.Prelude.{◌≡◌, ◌&&◌, ltb};
 ghost use Rattle.model.specs.Numbers.{◌unless◌, ◌▹◌, PROCESS, PROCESSES};
 ghost use Rattle.model.specs.Records.{occupied as occupied_of};

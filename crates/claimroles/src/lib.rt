@@ -1,4 +1,6 @@
 // Rules C1 to C5 of a claim: what the roles of S are, and what they may do.
+#![tactic(auto)]
+
 ghost use Rattle.std.specs.Prelude.{◌≡◌};
 ghost use Rattle.model.specs.Numbers.{◌unless◌};
 ghost use Rattle.model.specs.Claims.{every_role, plain_in, C1, C2, spares as spares_of, stays_in};

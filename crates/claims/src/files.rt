@@ -17,7 +17,7 @@ use tables::records::{file_word, kept_at, process_at, user_role};
 use tables::words::word;
 
 // What is carried so far: whether all plain values are in S (C7), which special values there are, and the two values that were found last.
-#[derive(Drop)]
+#[derive(Clone, Copy)]
 pub struct Carried {
     pub plain: bool,
     pub user: bool,

@@ -1,4 +1,6 @@
 // The claim checker ("Claims"): the one verdict on a claim, with the first rule broken.
+#![tactic(auto)]
+
 ghost use Rattle.std.specs.Prelude.{◌≡◌};
 ghost use Rattle.model.specs.Claims.{broken as broken_of, claim_no, check as check_of};
 

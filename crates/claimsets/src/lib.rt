@@ -1,4 +1,6 @@
 // What the roles of a set may do as a whole, worked out of the roles alone, so that the claim checker tests each file by whole words.
+#![tactic(auto)]
+
 ghost use Rattle.std.specs.Prelude.{◌≡◌, length};
 ghost use Rattle.sets.specs.Sets.{joined};
 ghost use Rattle.model.specs.Words.{◌!◌};

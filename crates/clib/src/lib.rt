@@ -1,4 +1,6 @@
 // The library for C: a row of tables is lent to each function as a pointer and a number of words. include/monitor.h is its face.
+#![tactic(auto)]
+
 ghost use Rattle.std.specs.Prelude.{◌≡◌, [], ◌∷◌};
 ghost use Rattle.model.specs.Outcome.{outcome};
 ghost use Rattle.model.specs.WellFormed.{well_formed};

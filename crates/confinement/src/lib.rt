@@ -1,1 +1,2 @@
 // That an accepted claim confines is proved in proofs/: this crate has no code.
+#![tactic(auto)]

@@ -1,4 +1,6 @@
 // How a call ends that writes one word or a run of them: a number other than 0 refuses and leaves the row as found; 0 answers a place and writes.
+#![tactic(auto)]
+
 ghost use Rattle.std.specs.Prelude.{◌≡◌, set};
 ghost use Rattle.model.specs.Outcome.{outcome, decide};
 ghost use Rattle.model.specs.Words.{put};

@@ -1,4 +1,6 @@
 // How a call is written as a kind and some numbers.
+#![tactic(auto)]
+
 ghost use Rattle.std.specs.Prelude.{◌≡◌};
 ghost use Rattle.decoding.specs.Kinds.{takes as takes_of, decode_of};
 
@@ -55,7 +57,7 @@ pub const CALL_SET_PROGRAM_ROLES: u32 = 22;
 pub const NUMBERS: usize = 5;
 
 // What was written: a call, or nothing that is one.
-#[derive(Drop)]
+#[derive(Clone, Copy)]
 pub enum Decoded {
     Unknown,
     Known(Call),

@@ -1,5 +1,7 @@
 // Effective values (rules 5, 17, 19) by the climb itself, for the queries: the type, the initial or the forced value of a file, with the count of
 // parents and the place where the climb ends. Calls and claims read what is kept of it.
+#![tactic(auto)]
+
 ghost use Rattle.std.specs.Prelude.{◌≡◌};
 ghost use Rattle.model.specs.Effective.{root_value, effective as effective_of};
 

@@ -1,5 +1,7 @@
 // Whether the words of one record are well formed.
 // The first word tells a free place, and the others are read where they are tested.
+#![tactic(auto)]
+
 ghost use Rattle.std.specs.Prelude.{[], ◌∷◌, ◌≡◌, ◌&&◌};
 ghost use Rattle.model.specs.Layout.{FILE-WORDS, file_addr};
 ghost use Rattle.model.specs.Words.{block};

@@ -1,4 +1,6 @@
 // The row checks itself: whether it is well formed, by one walk over each table.
+#![tactic(auto)]
+
 ghost use Rattle.std.specs.Prelude.{◌≡◌};
 ghost use Rattle.model.specs.WellFormed.{well_formed};
 ghost use Rattle.formed.specs.Tables.{tables_ok};

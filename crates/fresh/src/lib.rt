@@ -1,4 +1,6 @@
 // The fresh tables that any monitor begins with.
+#![tactic(auto)]
+
 ghost use Rattle.std.specs.Prelude.{◌≡◌, length, replicate};
 ghost use Rattle.model.specs.Outcome.{outcome};
 ghost use Rattle.model.specs.Fresh.{first_process, root_dir, build_fresh};

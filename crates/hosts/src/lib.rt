@@ -1,4 +1,6 @@
 // For a host that keeps the process records as structs: the row of them is lent beside the tables, and one is read or rewritten where it lies.
+#![tactic(auto)]
+
 ghost use Rattle.std.specs.Prelude.{◌&&◌, ◌≡◌};
 ghost use Rattle.model.specs.WellFormed.{well_formed};
 ghost use Rattle.model.specs.Numbers.{◌unless◌, ◌▹◌};

@@ -1,5 +1,7 @@
 // Effective values kept beside the files (W-206; rules 5, 17, 19): what calls read, and how a write of a file goes on to what is kept.
 // Each function leaves what its definition says, on any row.
+#![tactic(auto)]
+
 ghost use Rattle.std.specs.Prelude.{◌≡◌, ◌+◌};
 ghost use Rattle.model.specs.Layout.{FILE-TYPE};
 ghost use Rattle.model.specs.Effective.{root_value};

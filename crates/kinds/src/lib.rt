@@ -1,4 +1,6 @@
 // The one entry for calls that are written as a kind and some numbers, for C and for batches.
+#![tactic(auto)]
+
 ghost use Rattle.std.specs.Prelude.{◌≡◌};
 ghost use Rattle.model.specs.Outcome.{outcome};
 ghost use Rattle.kinds.specs.ByKind.{done as done_of, act_by_kind, step_by_kind};

@@ -1,1 +1,2 @@
 // The marked examples of the scope document are in proofs/: this crate has no code.
+#![tactic(auto)]

@@ -1,12 +1,14 @@
 // The types of the monitor: what the tables hold, what a process may ask, what it is answered.
 // Their meaning is in specs/, in the order of the scope document.
+#![tactic(auto)]
+
 use sets::RoleSet;
 
 pub mod layout;
 pub mod numbers;
 
 // What stands at a file place.
-#[derive(Drop)]
+#[derive(Clone, Copy)]
 pub enum Kind {
     Free,
     File,
@@ -14,7 +16,7 @@ pub enum Kind {
 }
 
 // A file's initial role: a role, or a named special case.
-#[derive(Drop)]
+#[derive(Clone, Copy)]
 pub enum Initial {
     Plain(u32),
     InheritParent,
@@ -22,7 +24,7 @@ pub enum Initial {
 }
 
 // A file's or a process's forced role: a role, or a named special case.
-#[derive(Drop)]
+#[derive(Clone, Copy)]
 pub enum Forced {
     Plain(u32),
     InheritParent,
@@ -32,7 +34,7 @@ pub enum Forced {
 }
 
 // A process place; `rctype` is the type that rights are held to.
-#[derive(Drop)]
+#[derive(Clone, Copy)]
 pub struct Process {
     pub live: bool,
     pub owner: u32,
@@ -42,7 +44,7 @@ pub struct Process {
 }
 
 // A file place; its type may be inherit parent.
-#[derive(Drop)]
+#[derive(Clone, Copy)]
 pub struct File {
     pub kind: Kind,
     pub parent: u32,
@@ -53,14 +55,14 @@ pub struct File {
 }
 
 // An IPC place.
-#[derive(Drop)]
+#[derive(Clone, Copy)]
 pub struct Ipc {
     pub live: bool,
     pub rctype: u32,
 }
 
 // A role: the sets that bound what it may take and give, the Role Admin mark, and the default types.
-#[derive(Drop)]
+#[derive(Clone, Copy)]
 pub struct Role {
     pub compatible: RoleSet,
     pub admin: RoleSet,
@@ -74,7 +76,7 @@ pub struct Role {
 }
 
 // What a process asks of the monitor; who asks stands beside it.
-#[derive(Drop)]
+#[derive(Clone, Copy)]
 pub enum Call {
     Access { group: u32, object: u32, right: u32 },
     Clone,
@@ -90,7 +92,7 @@ pub enum Call {
 }
 
 // What an administration call asks for.
-#[derive(Drop)]
+#[derive(Clone, Copy)]
 pub enum Change {
     AddRole {
         set: u32,
@@ -144,7 +146,7 @@ pub enum Change {
 }
 
 // An effective value, the number of parents climbed to it, and the place where the climb ended.
-#[derive(Drop)]
+#[derive(Clone, Copy)]
 pub struct Climbed {
     pub value: u32,
     pub climbed: u32,
@@ -153,7 +155,7 @@ pub struct Climbed {
 
 // What a call is answered: 0 and the place that a grant gives, or the number of the refusal and 0.
 #[repr(C)]
-#[derive(Drop)]
+#[derive(Clone, Copy)]
 pub struct Answer {
     pub number: u32,
     pub place: u32,
@@ -161,7 +163,7 @@ pub struct Answer {
 
 // What a query is answered: 0, the value, the parents climbed and the place where the climb ended, or the number of the refusal and zeros.
 #[repr(C)]
-#[derive(Drop)]
+#[derive(Clone, Copy)]
 pub struct Found {
     pub number: u32,
     pub value: u32,
@@ -171,7 +173,7 @@ pub struct Found {
 
 // What a claim is answered: 0 and 0, 9 and the first rule broken, or another number and 0.
 #[repr(C)]
-#[derive(Drop)]
+#[derive(Clone, Copy)]
 pub struct Verdict {
     pub number: u32,
     pub rule: u32,

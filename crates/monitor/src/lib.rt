@@ -1,5 +1,7 @@
 // The monitor: one entry for any call. It tests the tables once, then the caller and the call's numbers once, then does the call; its contract
 // is the definition itself.
+#![tactic(auto)]
+
 ghost use Rattle.std.specs.Prelude.{◌≡◌};
 ghost use Rattle.model.specs.Outcome.{outcome, carry_out};
 ghost use Rattle.model.specs.Step.{ruling, act as act_of, step as step_of};

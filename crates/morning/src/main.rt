@@ -1,5 +1,7 @@
 // The planner's morning: a box at a water utility on which a planning script cannot write the list that the valves are driven by.
 // Everything is made from fresh tables by calls of processes; each call is told, with its answer.
+#![tactic(auto)]
+
 use fresh::build_fresh;
 use model::layout::ROW_LENGTH;
 

@@ -1,5 +1,7 @@
 // What a process does with itself: clone, exit, execute, change owner, change role. Each is by a live caller with numbers in range
 // (`monitor::act` has tested that); it answers and leaves what the ruling says, on any row.
+#![tactic(auto)]
+
 ghost use Rattle.std.specs.Prelude.{◌≡◌, ltb};
 ghost use Rattle.model.specs.declared.Call.{Call};
 ghost use Rattle.model.specs.Numbers.{◌unless◌, ◌▹◌, CLONE, PROCESSES};

@@ -1,4 +1,6 @@
 // The queries of a file: its effective values (rules 5, 17, 19) and its kind. They need no caller and no right, and refuse only with 1, 2 or 4.
+#![tactic(auto)]
+
 ghost use Rattle.std.specs.Prelude.{◌≡◌};
 ghost use Rattle.model.specs.Effective.{effective as effective_of};
 ghost use Rattle.model.specs.Queries.{look_no, look as look_of, look_type, look_kind, found_by, query as query_of, query_type, query_initial, query_forced, query_kind};

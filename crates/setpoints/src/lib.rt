@@ -1,5 +1,7 @@
 // Setpoint lists with a unit (W-202): what process may enter an amount into which list, and the entry it makes. This library stands above the
 // monitor and knows of it only what it promises: the WRITE decision, and what the queries answer of the list.
+#![tactic(auto)]
+
 ghost use Rattle.std.specs.Prelude.{◌≡◌};
 ghost use Rattle.model.specs.Outcome.{outcome};
 ghost use Rattle.setpoints.specs.Setpoints.{by_unit, in_range, entry as entry_of, enter_no, enter as enter_of};
@@ -24,7 +26,7 @@ const UNITS: u32 = 2;
 pub const LIMIT: u32 = 2000000;
 
 // What a process asks to have entered: an amount in a unit, into a list; and the file types set aside for lists in metres and in kilopascals.
-#[derive(Drop)]
+#[derive(Clone, Copy)]
 pub struct Setpoint {
     pub process: u32,
     pub list: u32,

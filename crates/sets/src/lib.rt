@@ -1,10 +1,12 @@
 // Sets of numbers below 32, each held in one word: whether a number is in one, with it, without it, how many.
 // Sets are compared, joined and counted word by word, and not number by number.
+#![tactic(auto)]
+
 ghost use Rattle.std.specs.Prelude.{◌≡◌};
 ghost use Rattle.sets.specs.Sets.{has as has_of, added, removed, size_of, meets as meets_of, inside as inside_of, joined};
 
 // A set: number i is in it where bit i is 1.
-#[derive(Drop)]
+#[derive(Clone, Copy)]
 pub struct RoleSet {
     pub bits: u32,
 }

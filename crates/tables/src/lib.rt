@@ -1,4 +1,6 @@
 // The tables in one lent row of words: its words, its addresses, its records by value, its places; and the sets of a claim.
+#![tactic(auto)]
+
 pub mod addresses;
 pub mod cases;
 pub mod claim;

@@ -2,6 +2,8 @@
 // brought, where effective values come from, what enters setpoint lists, how many members a role set has, who moves users, a night at once, what is
 // kept beside the files, and who gives a program its roles.
 // A line tells a trial and what it came to; every group of trials begins with fresh tables.
+#![tactic(auto)]
+
 use model::layout::ROW_LENGTH;
 
 mod administrator;
