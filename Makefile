@@ -10,7 +10,8 @@ CFLAGS ?= -std=c11 -O2 -Wall -Wextra -Werror
 OUT := target/lib
 ARCHIVE := $(OUT)/librcmonitor.a
 SHARED := $(OUT)/librcmonitor.so
-SOURCES := crates.txt $(shell find crates -name '*.rt' -o -name '*.antt')
+# What rt makes lies in the folders out/.
+SOURCES := crates.txt $(shell find crates -name out -prune -o \( -name '*.rt' -o -name '*.antt' \) -print)
 # The package's version is the layout's: who keeps rows asks for that.
 VERSION := $(shell sed -n 's/^.define RC_LAYOUT_VERSION //p' include/monitor.h)
 # Only a Python for x86-64 can load the library.
@@ -26,10 +27,10 @@ shared: $(SHARED)
 
 $(ARCHIVE): $(SOURCES)
 	@command -v rt > /dev/null || { echo 'the Rattle toolchain is not there (no rt on the PATH), so the library cannot be proved' >&2; exit 2; }
-	@echo 'proving and building the library: about 6 minutes the first time, then only what has changed'
+	@echo 'proving and building the library: minutes the first time, then only what has changed'
 	@mkdir -p $(OUT)
-	@rt staticlib clib > $(OUT)/log 2>&1 || { echo 'not proved, or not built; what the tools said is in $(OUT)/log' >&2; exit 1; }
-	cp target/staticlib/libclib.a $@
+	@(cd crates/clib && rt lib) > $(OUT)/log 2>&1 || { echo 'not proved, or not built; what the tools said is in $(OUT)/log' >&2; exit 1; }
+	cp crates/clib/out/libclib.a $@
 
 $(SHARED): $(ARCHIVE)
 	$(CC) -shared -Wl,--whole-archive $< -Wl,--no-whole-archive -o $@

@@ -11,121 +11,137 @@ use crate::tell::scene;
 use model::layout::CLAIM_LENGTH;
 use model::numbers::{ASSIGN_ROLES, COMPATIBLE_ROLES, EXECUTE, WRITE};
 use setpoints::METRES;
+use std::io;
 
-fn careless_write(t: &mut [u32], w: &[u32]) {
-    scene(b"A careless right.");
+fn careless_write(rt: &impl Print, t: &mut [u32], w: &[u32]) -> io::Result<()> {
+    scene(rt, "A careless right.")?;
     file_right(
+        rt,
         t,
-        b"The planner may write lists in kilopascals",
+        "The planner may write lists in kilopascals",
         PLANNER,
         KILOPASCALS,
         WRITE,
-    );
-    ask_checker(t, w);
+    )?;
+    ask_checker(rt, t, w)?;
     no_file_right(
+        rt,
         t,
-        b"The administrator takes that right back",
+        "The administrator takes that right back",
         PLANNER,
         KILOPASCALS,
         WRITE,
-    );
+    )
 }
 
-fn careless_role(t: &mut [u32], w: &[u32]) {
-    scene(b"A careless role.");
+fn careless_role(rt: &impl Print, t: &mut [u32], w: &[u32]) -> io::Result<()> {
+    scene(rt, "A careless role.")?;
     add_role(
+        rt,
         t,
-        b"A planner may turn into a scheduler",
+        "A planner may turn into a scheduler",
         COMPATIBLE_ROLES,
         PLANNER,
         SCHEDULER,
-    );
-    ask_checker(t, w);
+    )?;
+    ask_checker(rt, t, w)?;
     remove_role(
+        rt,
         t,
-        b"The administrator takes that role back",
+        "The administrator takes that role back",
         COMPATIBLE_ROLES,
         PLANNER,
         SCHEDULER,
-    );
-    ask_checker(t, w);
+    )?;
+    ask_checker(rt, t, w)
 }
 
 // Rule 26 keeps the helper from users of other roles; a family that may administer is not confined all the same.
-fn careless_helper(t: &mut [u32], w: &[u32]) {
-    scene(b"A helper for the administrator.");
+fn careless_helper(rt: &impl Print, t: &mut [u32], w: &[u32]) -> io::Result<()> {
+    scene(rt, "A helper for the administrator.")?;
     add_role(
+        rt,
         t,
-        b"A planner may assign the role of planner",
+        "A planner may assign the role of planner",
         ASSIGN_ROLES,
         PLANNER,
         PLANNER,
-    );
+    )?;
     user(
+        rt,
         t,
-        b"The planner's script makes the scheduling user a planner",
+        "The planner's script makes the scheduling user a planner",
         PLANNER_PROCESS,
         SCHEDULING,
         PLANNER,
-    );
-    ask_checker(t, w);
+    )?;
+    ask_checker(rt, t, w)?;
     remove_role(
+        rt,
         t,
-        b"The administrator takes that role back",
+        "The administrator takes that role back",
         ASSIGN_ROLES,
         PLANNER,
         PLANNER,
-    );
+    )
 }
 
-fn careless_program(t: &mut [u32], w: &[u32]) {
-    scene(b"A right that looks harmless.");
+fn careless_program(rt: &impl Print, t: &mut [u32], w: &[u32]) -> io::Result<()> {
+    scene(rt, "A right that looks harmless.")?;
     file_right(
+        rt,
         t,
-        b"The planner may run service programs",
+        "The planner may run service programs",
         PLANNER,
         SERVICE_PROGRAMS,
         EXECUTE,
-    );
-    ask_checker(t, w);
+    )?;
+    ask_checker(rt, t, w)
 }
 
 // What the checker named is what would happen; only an amount with its unit would still be refused.
-fn unasked(t: &mut [u32]) {
-    scene(b"Had nobody asked the checker, the 45 would be in the wrong list again.");
+fn unasked(rt: &impl Print, t: &mut [u32]) -> io::Result<()> {
+    scene(
+        rt,
+        "Had nobody asked the checker, the 45 would be in the wrong list again.",
+    )?;
     execute(
+        rt,
         t,
-        b"The planner's script runs the scheduler's program",
+        "The planner's script runs the scheduler's program",
         PLANNER_PROCESS,
         SCHEDULER_PROGRAM,
-    );
+    )?;
     access(
+        rt,
         t,
-        b"It writes 45 to the list in kilopascals",
+        "It writes 45 to the list in kilopascals",
         PLANNER_PROCESS,
         KILOPASCALS_LIST,
         WRITE,
-    );
+    )?;
     enter(
+        rt,
         t,
-        b"It enters 45000 mm of head there",
+        "It enters 45000 mm of head there",
         PLANNER_PROCESS,
         KILOPASCALS_LIST,
         METRES,
         45000,
-    );
+    )
 }
 
-pub(crate) fn run(t: &mut [u32]) {
+pub(crate) fn run(rt: &impl Print, t: &mut [u32]) -> io::Result<()> {
     let mut w = [0u32; CLAIM_LENGTH];
     fill(&mut w);
     scene(
-        b"The planner's claim: its family, which is itself and every process that it starts, never writes, makes or deletes a list in kilopascals.",
-    );
-    ask_checker(t, &w);
-    careless_write(t, &w);
-    careless_role(t, &w);
-    careless_helper(t, &w);
-    careless_program(t, &w);
-    unasked(t);
+        rt,
+        "The planner's claim: its family, which is itself and every process that it starts, never writes, makes or deletes a list in kilopascals.",
+    )?;
+    ask_checker(rt, t, &w)?;
+    careless_write(rt, t, &w)?;
+    careless_role(rt, t, &w)?;
+    careless_helper(rt, t, &w)?;
+    careless_program(rt, t, &w)?;
+    unasked(rt, t)
 }

@@ -4,6 +4,7 @@
 
 use fresh::build_fresh;
 use model::layout::ROW_LENGTH;
+use std::io;
 
 mod administrator;
 mod asking;
@@ -17,21 +18,25 @@ mod places;
 mod tell;
 mod words;
 
-fn main() {
+fn beginning(rt: &impl Print) -> io::Result<()> {
+    println!(rt;
+        "A planning script once wrote 45, meaning metres of head, into the list that the valve driver reads in kilopascals."
+    )?;
+    println!(rt; "Here the box is set up so that it cannot, and the script tries again.")?;
+    println!(rt;
+        "The monitor sees types and rights, never the 45 itself: so lists in metres and lists in kilopascals are two types."
+    )?;
+    println!(rt;
+        "Above it, who enters an amount names its unit, and the list must be of the unit's type; entries are in pascals."
+    )
+}
+
+fn main(rt: HostRuntime) -> io::Result<()> {
     let mut t = [0u32; ROW_LENGTH];
-    tell::say(
-        b"A planning script once wrote 45, meaning metres of head, into the list that the valve driver reads in kilopascals.\n",
-    );
-    tell::say(b"Here the box is set up so that it cannot, and the script tries again.\n");
-    tell::say(
-        b"The monitor sees types and rights, never the 45 itself: so lists in metres and lists in kilopascals are two types.\n",
-    );
-    tell::say(
-        b"Above it, who enters an amount names its unit, and the list must be of the unit's type; entries are in pascals.\n",
-    );
+    beginning(&rt)?;
     build_fresh(&mut t);
-    people::run(&mut t);
-    places::run(&mut t);
-    day::run(&mut t);
-    careless::run(&mut t);
+    people::run(&rt, &mut t)?;
+    places::run(&rt, &mut t)?;
+    day::run(&rt, &mut t)?;
+    careless::run(&rt, &mut t)
 }

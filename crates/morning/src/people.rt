@@ -9,133 +9,161 @@ use model::numbers::{
     CHANGE_OWNER, CLONE, CREATE, EXECUTE, PROCESS_CHOWN, PROCESS_CREATE, READ,
     USE_NEW_ROLE_DEF_CREATE, WRITE,
 };
+use std::io;
 
-fn users(t: &mut [u32]) {
-    scene(b"The administrator says who works here.");
-    user(t, b"The planning user begins as planner", PLANNING, PLANNER);
+fn users(rt: &impl Print, t: &mut [u32]) -> io::Result<()> {
+    scene(rt, "The administrator says who works here.")?;
     user(
+        rt,
         t,
-        b"The scheduling user begins as scheduler",
+        "The planning user begins as planner",
+        PLANNING,
+        PLANNER,
+    )?;
+    user(
+        rt,
+        t,
+        "The scheduling user begins as scheduler",
         SCHEDULING,
         SCHEDULER,
-    );
+    )?;
     user(
+        rt,
         t,
-        b"The valves' user begins as valve driver",
+        "The valves' user begins as valve driver",
         VALVES,
         VALVE_DRIVER,
-    );
+    )?;
     default_type(
+        rt,
         t,
-        b"A planner's processes are scripts",
+        "A planner's processes are scripts",
         PROCESS_CREATE,
         PLANNER,
         SCRIPTS,
-    );
+    )?;
     default_type(
+        rt,
         t,
-        b"A scheduler's processes are services",
+        "A scheduler's processes are services",
         PROCESS_CREATE,
         SCHEDULER,
         SERVICES,
-    );
+    )?;
     default_type(
+        rt,
         t,
-        b"A valve driver's processes are services",
+        "A valve driver's processes are services",
         PROCESS_CREATE,
         VALVE_DRIVER,
         SERVICES,
-    );
+    )
 }
 
-fn administrator(t: &mut [u32]) {
-    scene(b"The administrator takes the rights to set up the box and to start the others.");
+fn administrator(rt: &impl Print, t: &mut [u32]) -> io::Result<()> {
+    scene(
+        rt,
+        "The administrator takes the rights to set up the box and to start the others.",
+    )?;
     file_right(
+        rt,
         t,
-        b"The administrator may make files and directories on the box",
+        "The administrator may make files and directories on the box",
         ADMINISTRATOR,
         BOX,
         CREATE,
-    );
+    )?;
     process_right(
+        rt,
         t,
-        b"The administrator may clone its processes",
+        "The administrator may clone its processes",
         ADMINISTRATOR,
         HOUSEKEEPING,
         CLONE,
-    );
+    )?;
     process_right(
+        rt,
         t,
-        b"The administrator may hand a process to a user",
+        "The administrator may hand a process to a user",
         ADMINISTRATOR,
         HOUSEKEEPING,
         CHANGE_OWNER,
-    );
+    )?;
     default_type(
+        rt,
         t,
-        b"A process handed over is of the new role's type",
+        "A process handed over is of the new role's type",
         PROCESS_CHOWN,
         ADMINISTRATOR,
         USE_NEW_ROLE_DEF_CREATE,
-    );
+    )
 }
 
-fn planner(t: &mut [u32]) {
+fn planner(rt: &impl Print, t: &mut [u32]) -> io::Result<()> {
     file_right(
+        rt,
         t,
-        b"The planner may run planning programs",
+        "The planner may run planning programs",
         PLANNER,
         PLANNING_PROGRAMS,
         EXECUTE,
-    );
+    )?;
     file_right(
+        rt,
         t,
-        b"The planner may write lists in metres",
+        "The planner may write lists in metres",
         PLANNER,
         METRES,
         WRITE,
-    );
+    )
 }
 
-fn scheduler(t: &mut [u32]) {
+fn scheduler(rt: &impl Print, t: &mut [u32]) -> io::Result<()> {
     file_right(
+        rt,
         t,
-        b"The scheduler may run service programs",
+        "The scheduler may run service programs",
         SCHEDULER,
         SERVICE_PROGRAMS,
         EXECUTE,
-    );
+    )?;
     file_right(
+        rt,
         t,
-        b"The scheduler may read lists in metres",
+        "The scheduler may read lists in metres",
         SCHEDULER,
         METRES,
         READ,
-    );
+    )?;
     file_right(
+        rt,
         t,
-        b"The scheduler may write lists in kilopascals",
+        "The scheduler may write lists in kilopascals",
         SCHEDULER,
         KILOPASCALS,
         WRITE,
-    );
+    )
 }
 
-fn valve_driver(t: &mut [u32]) {
+fn valve_driver(rt: &impl Print, t: &mut [u32]) -> io::Result<()> {
     file_right(
+        rt,
         t,
-        b"The valve driver may read lists in kilopascals",
+        "The valve driver may read lists in kilopascals",
         VALVE_DRIVER,
         KILOPASCALS,
         READ,
-    );
+    )
 }
 
-pub(crate) fn run(t: &mut [u32]) {
-    users(t);
-    administrator(t);
-    scene(b"The administrator gives each role what its work needs, and no more.");
-    planner(t);
-    scheduler(t);
-    valve_driver(t);
+pub(crate) fn run(rt: &impl Print, t: &mut [u32]) -> io::Result<()> {
+    users(rt, t)?;
+    administrator(rt, t)?;
+    scene(
+        rt,
+        "The administrator gives each role what its work needs, and no more.",
+    )?;
+    planner(rt, t)?;
+    scheduler(rt, t)?;
+    valve_driver(rt, t)
 }

@@ -6,63 +6,76 @@ use crate::names::{
 };
 use crate::tell::scene;
 use model::numbers::{DIR, FILE};
+use std::io;
 
-fn programs(t: &mut [u32]) {
-    scene(b"The administrator puts the programs in place.");
-    create(t, b"A directory for programs", DIR, ROOT);
-    create(t, b"A directory for planning programs in it", DIR, PROGRAMS);
-    create(t, b"The planner's script in that one", FILE, PLANS);
-    create(t, b"The scheduler's program beside it", FILE, PROGRAMS);
+fn programs(rt: &impl Print, t: &mut [u32]) -> io::Result<()> {
+    scene(rt, "The administrator puts the programs in place.")?;
+    create(rt, t, "A directory for programs", DIR, ROOT)?;
+    create(
+        rt,
+        t,
+        "A directory for planning programs in it",
+        DIR,
+        PROGRAMS,
+    )?;
+    create(rt, t, "The planner's script in that one", FILE, PLANS)?;
+    create(rt, t, "The scheduler's program beside it", FILE, PROGRAMS)
 }
 
-fn program_roles(t: &mut [u32]) {
+fn program_roles(rt: &impl Print, t: &mut [u32]) -> io::Result<()> {
     file_type(
+        rt,
         t,
-        b"The programs are service programs",
+        "The programs are service programs",
         PROGRAMS,
         SERVICE_PROGRAMS,
-    );
+    )?;
     file_type(
+        rt,
         t,
-        b"Those in the planning directory are planning programs",
+        "Those in the planning directory are planning programs",
         PLANS,
         PLANNING_PROGRAMS,
-    );
+    )?;
     forced(
+        rt,
         t,
-        b"Whoever runs a planning program is a planner",
+        "Whoever runs a planning program is a planner",
         PLANS,
         PLANNER,
-    );
+    )?;
     forced(
+        rt,
         t,
-        b"Whoever runs the scheduler's program is a scheduler",
+        "Whoever runs the scheduler's program is a scheduler",
         SCHEDULER_PROGRAM,
         SCHEDULER,
-    );
+    )
 }
 
-fn lists(t: &mut [u32]) {
-    scene(b"The administrator puts the lists in place.");
-    create(t, b"A directory for lists", DIR, ROOT);
-    create(t, b"The planner's list in it", FILE, LISTS);
-    create(t, b"The valve driver's list in it", FILE, LISTS);
+fn lists(rt: &impl Print, t: &mut [u32]) -> io::Result<()> {
+    scene(rt, "The administrator puts the lists in place.")?;
+    create(rt, t, "A directory for lists", DIR, ROOT)?;
+    create(rt, t, "The planner's list in it", FILE, LISTS)?;
+    create(rt, t, "The valve driver's list in it", FILE, LISTS)?;
     file_type(
+        rt,
         t,
-        b"The planner's list is in metres of head",
+        "The planner's list is in metres of head",
         METRES_LIST,
         METRES,
-    );
+    )?;
     file_type(
+        rt,
         t,
-        b"The valve driver's list is in kilopascals",
+        "The valve driver's list is in kilopascals",
         KILOPASCALS_LIST,
         KILOPASCALS,
-    );
+    )
 }
 
-pub(crate) fn run(t: &mut [u32]) {
-    programs(t);
-    program_roles(t);
-    lists(t);
+pub(crate) fn run(rt: &impl Print, t: &mut [u32]) -> io::Result<()> {
+    programs(rt, t)?;
+    program_roles(rt, t)?;
+    lists(rt, t)
 }

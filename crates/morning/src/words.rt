@@ -4,58 +4,76 @@ use crate::names::{
     PLANNING_PROGRAMS, PLANNING_SCRIPT, PLANS, PROGRAMS, ROOT, SCHEDULER, SCHEDULER_PROGRAM,
     SERVICE_PROGRAMS, VALVE_DRIVER,
 };
-use crate::tell::{number, say};
 use model::numbers::{CREATE, DELETE, EXECUTE, READ, WRITE};
+use std::fmt;
 
-pub(crate) fn role(n: u32) {
-    say(b"role ");
-    number(n);
-    match n {
-        ADMINISTRATOR => say(b" (administrator)"),
-        PLANNER => say(b" (planner)"),
-        SCHEDULER => say(b" (scheduler)"),
-        VALVE_DRIVER => say(b" (valve driver)"),
-        _ => {}
+#[derive(Clone, Copy)]
+pub(crate) struct Role(pub(crate) u32);
+
+impl fmt::Display for Role {
+    fn fmt<W: fmt::Write>(&self, f: &mut fmt::Formatter<W>) -> fmt::Result {
+        let n = self.0;
+        match n {
+            ADMINISTRATOR => write!(f, "role {n} (administrator)"),
+            PLANNER => write!(f, "role {n} (planner)"),
+            SCHEDULER => write!(f, "role {n} (scheduler)"),
+            VALVE_DRIVER => write!(f, "role {n} (valve driver)"),
+            _ => write!(f, "role {n}"),
+        }
     }
 }
 
-pub(crate) fn file_type(n: u32) {
-    say(b"file type ");
-    number(n);
-    match n {
-        BOX => say(b" (the box)"),
-        PLANNING_PROGRAMS => say(b" (planning programs)"),
-        SERVICE_PROGRAMS => say(b" (service programs)"),
-        METRES => say(b" (lists in metres)"),
-        KILOPASCALS => say(b" (lists in kilopascals)"),
-        _ => {}
+#[derive(Clone, Copy)]
+pub(crate) struct FileType(pub(crate) u32);
+
+impl fmt::Display for FileType {
+    fn fmt<W: fmt::Write>(&self, f: &mut fmt::Formatter<W>) -> fmt::Result {
+        let n = self.0;
+        match n {
+            BOX => write!(f, "file type {n} (the box)"),
+            PLANNING_PROGRAMS => write!(f, "file type {n} (planning programs)"),
+            SERVICE_PROGRAMS => write!(f, "file type {n} (service programs)"),
+            METRES => write!(f, "file type {n} (lists in metres)"),
+            KILOPASCALS => write!(f, "file type {n} (lists in kilopascals)"),
+            _ => write!(f, "file type {n}"),
+        }
     }
 }
 
-pub(crate) fn file(n: u32) {
-    say(b"place ");
-    number(n);
-    match n {
-        ROOT => say(b" (the root)"),
-        PROGRAMS => say(b" (the directory of programs)"),
-        PLANS => say(b" (the directory of planning programs)"),
-        PLANNING_SCRIPT => say(b" (the planner's script)"),
-        SCHEDULER_PROGRAM => say(b" (the scheduler's program)"),
-        LISTS => say(b" (the directory of lists)"),
-        METRES_LIST => say(b" (the list in metres)"),
-        KILOPASCALS_LIST => say(b" (the list in kilopascals)"),
-        _ => {}
+#[derive(Clone, Copy)]
+pub(crate) struct File(pub(crate) u32);
+
+impl fmt::Display for File {
+    fn fmt<W: fmt::Write>(&self, f: &mut fmt::Formatter<W>) -> fmt::Result {
+        let n = self.0;
+        match n {
+            ROOT => write!(f, "place {n} (the root)"),
+            PROGRAMS => write!(f, "place {n} (the directory of programs)"),
+            PLANS => write!(f, "place {n} (the directory of planning programs)"),
+            PLANNING_SCRIPT => write!(f, "place {n} (the planner's script)"),
+            SCHEDULER_PROGRAM => write!(f, "place {n} (the scheduler's program)"),
+            LISTS => write!(f, "place {n} (the directory of lists)"),
+            METRES_LIST => write!(f, "place {n} (the list in metres)"),
+            KILOPASCALS_LIST => write!(f, "place {n} (the list in kilopascals)"),
+            _ => write!(f, "place {n}"),
+        }
     }
 }
 
 // A right that files have; of the others the number.
-pub(crate) fn right(n: u32) {
-    match n {
-        READ => say(b"READ"),
-        WRITE => say(b"WRITE"),
-        EXECUTE => say(b"EXECUTE"),
-        CREATE => say(b"CREATE"),
-        DELETE => say(b"DELETE"),
-        _ => number(n),
+#[derive(Clone, Copy)]
+pub(crate) struct Right(pub(crate) u32);
+
+impl fmt::Display for Right {
+    fn fmt<W: fmt::Write>(&self, f: &mut fmt::Formatter<W>) -> fmt::Result {
+        let n = self.0;
+        match n {
+            READ => write!(f, "READ"),
+            WRITE => write!(f, "WRITE"),
+            EXECUTE => write!(f, "EXECUTE"),
+            CREATE => write!(f, "CREATE"),
+            DELETE => write!(f, "DELETE"),
+            _ => write!(f, "{n}"),
+        }
     }
 }

@@ -5,49 +5,46 @@ use fresh::build_fresh;
 use model::Call;
 use model::numbers::{CLONE, CREATE, DEEPEST, DIR, FILE, FILES, FILESYSTEM, IPC, PROCESS};
 use monitor::step;
+use std::io;
 
 // How often process 0 is granted a call before the first refusal; no table has more places than the files.
 fn times(t: &mut [u32], call: Call) -> u32 {
-    let mut n: u32 = 0;
-    while n < FILES {
+    for n in 0..FILES {
         if step(t, 0, call).number != 0 {
             return n;
         }
-        n += 1;
     }
-    n
+    FILES
 }
 
 // So many directories, the first in the root and each other in the one before it; the last one's place.
-pub(crate) fn chain(t: &mut [u32], deep: u32) -> u32 {
+pub(crate) fn chain(rt: &impl Print, t: &mut [u32], deep: u32) -> io::Result<u32> {
     let mut place: u32 = 0;
-    let mut made: u32 = 0;
-    while made < deep {
+    for _ in 0..deep {
         let a = create(t, DIR, place);
-        granted(a);
+        granted(rt, a)?;
         place = a.place;
-        made += 1;
     }
-    place
+    Ok(place)
 }
 
-fn processes(t: &mut [u32]) {
+fn processes(rt: &impl Print, t: &mut [u32]) -> io::Result<()> {
     build_fresh(t);
-    granted(add_right(t, PROCESS, 0, 0, CLONE));
+    granted(rt, add_right(t, PROCESS, 0, 0, CLONE))?;
     let n = times(t, Call::Clone);
-    counted(n, b" clones granted, the next: ", clone(t).number);
+    counted(rt, n, " clones granted, the next: ", clone(t).number)
 }
 
 // A place that an exit leaves is the lowest free one.
-fn place_again(t: &mut [u32]) {
-    line(b"process 7 exits: ", step(t, 7, Call::Exit).number);
-    placed(b"a clone after that: ", clone(t));
-    line(b"the next clone: ", clone(t).number);
+fn place_again(rt: &impl Print, t: &mut [u32]) -> io::Result<()> {
+    line(rt, "process 7 exits: ", step(t, 7, Call::Exit).number)?;
+    placed(rt, "a clone after that: ", clone(t))?;
+    line(rt, "the next clone: ", clone(t).number)
 }
 
-fn files(t: &mut [u32]) {
+fn files(rt: &impl Print, t: &mut [u32]) -> io::Result<()> {
     build_fresh(t);
-    granted(add_right(t, FILESYSTEM, 0, 0, CREATE));
+    granted(rt, add_right(t, FILESYSTEM, 0, 0, CREATE))?;
     let n = times(
         t,
         Call::Create {
@@ -56,37 +53,39 @@ fn files(t: &mut [u32]) {
         },
     );
     counted(
+        rt,
         n,
-        b" creations granted, the next: ",
+        " creations granted, the next: ",
         create(t, FILE, 0).number,
-    );
+    )
 }
 
-fn ipcs(t: &mut [u32]) {
+fn ipcs(rt: &impl Print, t: &mut [u32]) -> io::Result<()> {
     build_fresh(t);
-    granted(add_right(t, IPC, 0, 0, CREATE));
+    granted(rt, add_right(t, IPC, 0, 0, CREATE))?;
     let n = times(t, Call::CreateIpc);
     counted(
+        rt,
         n,
-        b" IPC creations granted, the next: ",
+        " IPC creations granted, the next: ",
         step(t, 0, Call::CreateIpc).number,
-    );
+    )
 }
 
 // A directory at the last depth; its place.
-fn deepest(t: &mut [u32]) -> u32 {
+fn deepest(rt: &impl Print, t: &mut [u32]) -> io::Result<u32> {
     build_fresh(t);
-    granted(add_right(t, FILESYSTEM, 0, 0, CREATE));
-    let above = chain(t, DEEPEST - 1);
+    granted(rt, add_right(t, FILESYSTEM, 0, 0, CREATE))?;
+    let above = chain(rt, t, DEEPEST - 1)?;
     let last = create(t, DIR, above);
-    placed(b"a directory at depth 15: ", last);
-    last.place
+    placed(rt, "a directory at depth 15: ", last)?;
+    Ok(last.place)
 }
 
 // Where the table is full as well, the depth is told: 7 is the lower number.
-fn depths(t: &mut [u32]) {
-    let last = deepest(t);
-    line(b"a directory at depth 16: ", create(t, DIR, last).number);
+fn depths(rt: &impl Print, t: &mut [u32]) -> io::Result<()> {
+    let last = deepest(rt, t)?;
+    line(rt, "a directory at depth 16: ", create(t, DIR, last).number)?;
     let n = times(
         t,
         Call::Create {
@@ -95,16 +94,17 @@ fn depths(t: &mut [u32]) {
         },
     );
     counted(
+        rt,
         n,
-        b" more creations granted, the next at depth 16: ",
+        " more creations granted, the next at depth 16: ",
         create(t, FILE, last).number,
-    );
+    )
 }
 
-pub(crate) fn run(t: &mut [u32]) {
-    processes(t);
-    place_again(t);
-    files(t);
-    ipcs(t);
-    depths(t);
+pub(crate) fn run(rt: &impl Print, t: &mut [u32]) -> io::Result<()> {
+    processes(rt, t)?;
+    place_again(rt, t)?;
+    files(rt, t)?;
+    ipcs(rt, t)?;
+    depths(rt, t)
 }

@@ -6,6 +6,7 @@ use fresh::build_fresh;
 use model::numbers::{CREATE, FILE, FILESYSTEM, PROCESSES, ROOT, WRITE};
 use queries::query_kind;
 use setpoints::{KILOPASCALS, LIMIT, METRES, Setpoint, enter};
+use std::io;
 
 const METRES_TYPE: u32 = 3;
 
@@ -22,30 +23,30 @@ const UNWRITTEN_LIST: u32 = 3;
 
 const FREE_PLACE: u32 = 4;
 
-fn lists(t: &mut [u32]) {
-    granted(add_right(t, FILESYSTEM, 0, 0, CREATE));
-    granted(create(t, FILE, ROOT));
-    granted(create(t, FILE, ROOT));
-    granted(create(t, FILE, ROOT));
+fn lists(rt: &impl Print, t: &mut [u32]) -> io::Result<()> {
+    granted(rt, add_right(t, FILESYSTEM, 0, 0, CREATE))?;
+    granted(rt, create(t, FILE, ROOT))?;
+    granted(rt, create(t, FILE, ROOT))?;
+    granted(rt, create(t, FILE, ROOT))
 }
 
-fn types(t: &mut [u32]) {
-    granted(set_file_type(t, METRES_LIST, METRES_TYPE));
-    granted(set_file_type(t, KILOPASCALS_LIST, KILOPASCALS_TYPE));
-    granted(set_file_type(t, UNWRITTEN_LIST, UNWRITTEN_TYPE));
+fn types(rt: &impl Print, t: &mut [u32]) -> io::Result<()> {
+    granted(rt, set_file_type(t, METRES_LIST, METRES_TYPE))?;
+    granted(rt, set_file_type(t, KILOPASCALS_LIST, KILOPASCALS_TYPE))?;
+    granted(rt, set_file_type(t, UNWRITTEN_LIST, UNWRITTEN_TYPE))
 }
 
-fn rights(t: &mut [u32]) {
-    granted(add_right(t, FILESYSTEM, 0, METRES_TYPE, WRITE));
-    granted(add_right(t, FILESYSTEM, 0, KILOPASCALS_TYPE, WRITE));
+fn rights(rt: &impl Print, t: &mut [u32]) -> io::Result<()> {
+    granted(rt, add_right(t, FILESYSTEM, 0, METRES_TYPE, WRITE))?;
+    granted(rt, add_right(t, FILESYSTEM, 0, KILOPASCALS_TYPE, WRITE))
 }
 
 // An amount entered where two entries stand, told with both.
-fn entered(t: &[u32], text: &[u8], s: Setpoint) {
+fn entered(rt: &impl Print, t: &[u32], text: &str, s: Setpoint) -> io::Result<()> {
     let mut entries = [7u32; 2];
-    part(text, enter(t, s, &mut entries).number);
-    part(b", entries ", entries[0]);
-    line(b" ", entries[1]);
+    part(rt, text, enter(t, s, &mut entries).number)?;
+    part(rt, ", entries ", entries[0])?;
+    line(rt, " ", entries[1])
 }
 
 fn setpoint(unit: u32, list: u32, amount: u32) -> Setpoint {
@@ -59,32 +60,36 @@ fn setpoint(unit: u32, list: u32, amount: u32) -> Setpoint {
     }
 }
 
-fn rounded(t: &[u32]) {
-    entered(t, b"0 mm of head: ", setpoint(METRES, METRES_LIST, 0));
-    entered(t, b"1000 mm: ", setpoint(METRES, METRES_LIST, 1000));
+fn rounded(rt: &impl Print, t: &[u32]) -> io::Result<()> {
+    entered(rt, t, "0 mm of head: ", setpoint(METRES, METRES_LIST, 0))?;
+    entered(rt, t, "1000 mm: ", setpoint(METRES, METRES_LIST, 1000))?;
     entered(
+        rt,
         t,
-        b"10000 mm, a half that goes up: ",
+        "10000 mm, a half that goes up: ",
         setpoint(METRES, METRES_LIST, 10000),
-    );
-    entered(t, b"45000 mm: ", setpoint(METRES, METRES_LIST, 45000));
+    )?;
+    entered(rt, t, "45000 mm: ", setpoint(METRES, METRES_LIST, 45000))?;
     entered(
+        rt,
         t,
-        b"2000000 mm, the limit: ",
+        "2000000 mm, the limit: ",
         setpoint(METRES, METRES_LIST, LIMIT),
-    );
+    )?;
     entered(
+        rt,
         t,
-        b"45000 Pa into the list in kilopascals: ",
+        "45000 Pa into the list in kilopascals: ",
         setpoint(KILOPASCALS, KILOPASCALS_LIST, 45000),
-    );
+    )
 }
 
 // An unknown unit, and types of which only the one in use is in range.
-fn out_of_range(t: &[u32]) {
+fn out_of_range(rt: &impl Print, t: &[u32]) -> io::Result<()> {
     entered(
+        rt,
         t,
-        b"number 2, a unit that is none: ",
+        "number 2, a unit that is none: ",
         Setpoint {
             process: 0,
             list: METRES_LIST,
@@ -93,10 +98,11 @@ fn out_of_range(t: &[u32]) {
             metres: METRES_TYPE,
             kilopascals: METRES_TYPE,
         },
-    );
+    )?;
     entered(
+        rt,
         t,
-        b"number 2, metres where lists in kilopascals would have type 32: ",
+        "number 2, metres where lists in kilopascals would have type 32: ",
         Setpoint {
             process: 0,
             list: METRES_LIST,
@@ -105,24 +111,26 @@ fn out_of_range(t: &[u32]) {
             metres: METRES_TYPE,
             kilopascals: 32,
         },
-    );
+    )
 }
 
-fn no_tables() {
+fn no_tables(rt: &impl Print) -> io::Result<()> {
     let ten = [0u32; 10];
     entered(
+        rt,
         &ten,
-        b"number 1, tables in a row of 10 words: ",
+        "number 1, tables in a row of 10 words: ",
         setpoint(METRES, METRES_LIST, 1000),
-    );
+    )
 }
 
-fn no_entries(t: &[u32]) {
+fn no_entries(rt: &impl Print, t: &[u32]) -> io::Result<()> {
     let mut none = [0u32; 0];
     line(
-        b"number 2, no place for an entry: ",
+        rt,
+        "number 2, no place for an entry: ",
         enter(t, setpoint(METRES, METRES_LIST, 1000), &mut none).number,
-    );
+    )
 }
 
 fn by_process(process: u32) -> Setpoint {
@@ -148,68 +156,81 @@ fn one_type(unit: u32, list: u32, rctype: u32) -> Setpoint {
     }
 }
 
-fn refused(t: &[u32]) {
-    no_tables();
+fn refused(rt: &impl Print, t: &[u32]) -> io::Result<()> {
+    no_tables(rt)?;
     entered(
+        rt,
         t,
-        b"number 2, above the limit: ",
+        "number 2, above the limit: ",
         setpoint(METRES, METRES_LIST, LIMIT + 1),
-    );
-    out_of_range(t);
-    no_entries(t);
+    )?;
+    out_of_range(rt, t)?;
+    no_entries(rt, t)?;
     entered(
+        rt,
         t,
-        b"number 2, process 64 and a list in another unit: ",
+        "number 2, process 64 and a list in another unit: ",
         by_process(PROCESSES),
-    );
+    )?;
     entered(
+        rt,
         t,
-        b"number 3, process 5, which is not live, and that list: ",
+        "number 3, process 5, which is not live, and that list: ",
         by_process(5),
-    );
-    entered(t, b"number 4, that list: ", by_process(0));
-    entered(t, b"number 4, a directory: ", setpoint(METRES, ROOT, 1000));
+    )?;
+    entered(rt, t, "number 4, that list: ", by_process(0))?;
     entered(
+        rt,
         t,
-        b"number 4, a free place: ",
+        "number 4, a directory: ",
+        setpoint(METRES, ROOT, 1000),
+    )?;
+    entered(
+        rt,
+        t,
+        "number 4, a free place: ",
         setpoint(METRES, FREE_PLACE, 1000),
-    );
+    )?;
     entered(
+        rt,
         t,
-        b"number 5, a list that is not to be written: ",
+        "number 5, a list that is not to be written: ",
         one_type(METRES, UNWRITTEN_LIST, UNWRITTEN_TYPE),
-    );
+    )
 }
 
-fn alike(t: &[u32]) {
+fn alike(rt: &impl Print, t: &[u32]) -> io::Result<()> {
     entered(
+        rt,
         t,
-        b"one type for both, 45000 mm: ",
+        "one type for both, 45000 mm: ",
         one_type(METRES, METRES_LIST, METRES_TYPE),
-    );
+    )?;
     entered(
+        rt,
         t,
-        b"one type for both, 45000 Pa: ",
+        "one type for both, 45000 Pa: ",
         one_type(KILOPASCALS, METRES_LIST, METRES_TYPE),
-    );
+    )
 }
 
-fn kinds(t: &[u32]) {
-    line(b"kind of a list: ", query_kind(t, METRES_LIST).value);
-    line(b"kind of the root: ", query_kind(t, ROOT).value);
+fn kinds(rt: &impl Print, t: &[u32]) -> io::Result<()> {
+    line(rt, "kind of a list: ", query_kind(t, METRES_LIST).value)?;
+    line(rt, "kind of the root: ", query_kind(t, ROOT).value)?;
     line(
-        b"kind of a free place, refused: ",
+        rt,
+        "kind of a free place, refused: ",
         query_kind(t, FREE_PLACE).number,
-    );
+    )
 }
 
-pub(crate) fn run(t: &mut [u32]) {
+pub(crate) fn run(rt: &impl Print, t: &mut [u32]) -> io::Result<()> {
     build_fresh(t);
-    lists(t);
-    types(t);
-    rights(t);
-    rounded(t);
-    alike(t);
-    refused(t);
-    kinds(t);
+    lists(rt, t)?;
+    types(rt, t)?;
+    rights(rt, t)?;
+    rounded(rt, t)?;
+    alike(rt, t)?;
+    refused(rt, t)?;
+    kinds(rt, t)
 }

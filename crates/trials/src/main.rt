@@ -5,13 +5,14 @@
 #![tactic(auto)]
 
 use model::layout::ROW_LENGTH;
+use std::io;
 
 mod administrator;
 mod beside;
 mod claim;
+mod examples;
 mod full;
 mod lists;
-mod marked;
 mod night;
 mod numbers;
 mod programs;
@@ -20,18 +21,18 @@ mod tell;
 mod users;
 mod whence;
 
-fn main() {
+fn main(rt: HostRuntime) -> io::Result<()> {
     let mut t = [0u32; ROW_LENGTH];
-    marked::run(&mut t);
-    claim::example(&mut t);
-    whence::run(&mut t);
-    lists::run(&mut t);
-    sizes::run(&mut t);
-    users::run(&mut t);
-    night::run(&mut t);
-    beside::run(&mut t);
-    programs::run(&mut t);
-    full::run(&mut t);
-    numbers::run(&mut t);
-    claim::numbers(&mut t);
+    examples::run(&rt, &mut t)?;
+    claim::example(&rt, &mut t)?;
+    whence::run(&rt, &mut t)?;
+    lists::run(&rt, &mut t)?;
+    sizes::run(&rt, &mut t)?;
+    users::run(&rt, &mut t)?;
+    night::run(&rt, &mut t)?;
+    beside::run(&rt, &mut t)?;
+    programs::run(&rt, &mut t)?;
+    full::run(&rt, &mut t)?;
+    numbers::run(&rt, &mut t)?;
+    claim::numbers(&rt, &mut t)
 }

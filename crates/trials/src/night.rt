@@ -10,6 +10,7 @@ use model::layout::ROW_LENGTH;
 use model::numbers::{CLONE, FILESYSTEM, PROCESS, PROCESSES, READ, ROOT, WRITE};
 use model::{Answer, Call};
 use monitor::step;
+use std::io;
 use tables::words::word;
 
 const ITEM_BYTES: usize = 16;
@@ -52,79 +53,95 @@ fn byte(bytes: &[u8], at: usize) -> u32 {
 }
 
 // What item k was answered.
-fn told(text: &[u8], answers: &[u8], k: u32) {
+fn told(rt: &impl Print, text: &str, answers: &[u8], k: u32) -> io::Result<()> {
     let at = (k as usize) * ANSWER_BYTES;
     placed(
+        rt,
         text,
         Answer {
             number: byte(answers, at),
             place: byte(answers, at + 1),
         },
-    );
+    )
 }
 
-fn evening_answers(answers: &[u8]) {
-    told(b"item 0, a1 process 0 asks READ on the root: ", answers, 0);
+fn evening_answers(rt: &impl Print, answers: &[u8]) -> io::Result<()> {
     told(
-        b"item 1, a2 process 0 adds WRITE for role 1 to file type 2: ",
+        rt,
+        "item 0, a1 process 0 asks READ on the root: ",
+        answers,
+        0,
+    )?;
+    told(
+        rt,
+        "item 1, a2 process 0 adds WRITE for role 1 to file type 2: ",
         answers,
         1,
-    );
-    told(b"item 2, kind 14, which is none since W-207: ", answers, 2);
+    )?;
     told(
-        b"item 3, process 0 adds CLONE for role 0 to process type 0: ",
+        rt,
+        "item 2, kind 14, which is none since W-207: ",
+        answers,
+        2,
+    )?;
+    told(
+        rt,
+        "item 3, process 0 adds CLONE for role 0 to process type 0: ",
         answers,
         3,
-    );
-    told(b"item 4, a clone whose last byte is 1: ", answers, 4);
-    told(b"item 5, process 0 clones: ", answers, 5);
+    )?;
+    told(rt, "item 4, a clone whose last byte is 1: ", answers, 4)?;
+    told(rt, "item 5, process 0 clones: ", answers, 5)
 }
 
-fn morning_answers(answers: &[u8]) {
-    told(b"item 6, process 1 exits: ", answers, 6);
+fn morning_answers(rt: &impl Print, answers: &[u8]) -> io::Result<()> {
+    told(rt, "item 6, process 1 exits: ", answers, 6)?;
     told(
-        b"item 7, process 1, which is not live, clones: ",
+        rt,
+        "item 7, process 1, which is not live, clones: ",
         answers,
         7,
-    );
-    told(b"item 8, process 64 clones: ", answers, 8);
-    told(b"item 9, process 0 exits: ", answers, 9);
-    told(b"item 10, process 0 clones again: ", answers, 10);
+    )?;
+    told(rt, "item 8, process 64 clones: ", answers, 8)?;
+    told(rt, "item 9, process 0 exits: ", answers, 9)?;
+    told(rt, "item 10, process 0 clones again: ", answers, 10)
 }
 
 // The night, with a byte lent past its answers.
-fn night(t: &mut [u32]) {
+fn night(rt: &impl Print, t: &mut [u32]) -> io::Result<()> {
     let mut answers = [UNWRITTEN; ANSWERS + 1];
-    line(b"eleven calls at once: ", sent(t, &mut answers).number);
-    evening_answers(&answers);
-    morning_answers(&answers);
-    line(b"the byte past the answers: ", byte(&answers, ANSWERS));
+    line(rt, "eleven calls at once: ", sent(t, &mut answers).number)?;
+    evening_answers(rt, &answers)?;
+    morning_answers(rt, &answers)?;
+    line(rt, "the byte past the answers: ", byte(&answers, ANSWERS))
 }
 
 // The number of a whole batch, and the first of three bytes lent for its answers: an item that was made would have changed it.
-fn whole(text: &[u8], t: &mut [u32], calls: &[u8]) {
+fn whole(rt: &impl Print, text: &str, t: &mut [u32], calls: &[u8]) -> io::Result<()> {
     let mut answers = [UNWRITTEN; 3];
-    part(text, batch(t, calls, &mut answers).number);
-    line(b", first answer byte ", byte(&answers, 0));
+    part(rt, text, batch(t, calls, &mut answers).number)?;
+    line(rt, ", first answer byte ", byte(&answers, 0))
 }
 
 // The tables stay as the night left them.
-fn unmade(t: &mut [u32]) {
+fn unmade(rt: &impl Print, t: &mut [u32]) -> io::Result<()> {
     whole(
-        b"number 2, a call and a byte more: ",
+        rt,
+        "number 2, a call and a byte more: ",
         t,
         &[0u8; ITEM_BYTES + 1],
-    );
+    )?;
     whole(
-        b"number 2, two calls and a byte too few for their answers: ",
+        rt,
+        "number 2, two calls and a byte too few for their answers: ",
         t,
         &[0u8; 2 * ITEM_BYTES],
-    );
-    whole(b"no calls: ", t, b"");
+    )?;
+    whole(rt, "no calls: ", t, b"")
 }
 
 // The same calls one by one, without the two items that are no call.
-fn evening_calls(t: &mut [u32]) {
+fn evening_calls(rt: &impl Print, t: &mut [u32]) -> io::Result<()> {
     step(
         t,
         0,
@@ -134,57 +151,57 @@ fn evening_calls(t: &mut [u32]) {
             right: READ,
         },
     );
-    granted(add_right(t, FILESYSTEM, 1, 2, WRITE));
-    granted(add_right(t, PROCESS, 0, 0, CLONE));
-    granted(clone(t));
+    granted(rt, add_right(t, FILESYSTEM, 1, 2, WRITE))?;
+    granted(rt, add_right(t, PROCESS, 0, 0, CLONE))?;
+    granted(rt, clone(t))
 }
 
-fn morning_calls(t: &mut [u32]) {
-    granted(step(t, 1, Call::Exit));
+fn morning_calls(rt: &impl Print, t: &mut [u32]) -> io::Result<()> {
+    granted(rt, step(t, 1, Call::Exit))?;
     step(t, 1, Call::Clone);
     step(t, PROCESSES, Call::Clone);
     step(t, 0, Call::Exit);
-    granted(clone(t));
+    granted(rt, clone(t))
 }
 
 // Whether two sets of tables have the same words.
 fn same(t: &[u32], s: &[u32]) -> bool {
     let mut ok = true;
-    let mut a: usize = 0;
-    while a < ROW_LENGTH {
+    for a in 0..ROW_LENGTH {
         ok = ok & (word(t, a) == word(s, a));
-        a += 1;
     }
     ok
 }
 
 // What the night left, beside what its calls leave one by one.
-fn left(t: &[u32]) {
+fn left(rt: &impl Print, t: &[u32]) -> io::Result<()> {
     let mut others = [0u32; ROW_LENGTH];
     build_fresh(&mut others);
-    evening_calls(&mut others);
-    morning_calls(&mut others);
-    holds(b"the tables are well formed: ", well_formed(t));
+    evening_calls(rt, &mut others)?;
+    morning_calls(rt, &mut others)?;
+    holds(rt, "the tables are well formed: ", well_formed(t))?;
     holds(
-        b"the calls one by one leave the same tables: ",
+        rt,
+        "the calls one by one leave the same tables: ",
         same(t, &others),
-    );
+    )
 }
 
-fn damaged(t: &mut [u32]) {
+fn damaged(rt: &impl Print, t: &mut [u32]) -> io::Result<()> {
     damage(t);
     whole(
-        b"number 1, tables with a damaged word: ",
+        rt,
+        "number 1, tables with a damaged word: ",
         t,
         &[0u8; ITEM_BYTES],
-    );
-    whole(b"number 1, no calls on them: ", t, b"");
+    )?;
+    whole(rt, "number 1, no calls on them: ", t, b"")
 }
 
-pub(crate) fn run(t: &mut [u32]) {
+pub(crate) fn run(rt: &impl Print, t: &mut [u32]) -> io::Result<()> {
     build_fresh(t);
-    night(t);
-    unmade(t);
-    left(t);
-    damaged(t);
+    night(rt, t)?;
+    unmade(rt, t)?;
+    left(rt, t)?;
+    damaged(rt, t)
 }

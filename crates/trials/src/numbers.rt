@@ -6,6 +6,7 @@ use model::Call;
 use model::layout::{OWNER, PROCESSES_AT};
 use model::numbers::{ADMIN, CREATE, DELETE, DIR, FILE, FILESYSTEM, PROCESSES, READ};
 use monitor::step;
+use std::io;
 use tables::words::set_word;
 
 // The word of process 0's owner, and a number that no user has.
@@ -18,25 +19,29 @@ pub(crate) fn damage(t: &mut [u32]) {
     set_word(t, OWNER_AT, NO_USER);
 }
 
-fn one(t: &mut [u32]) {
+fn one(rt: &impl Print, t: &mut [u32]) -> io::Result<()> {
     damage(t);
     line(
-        b"number 1, tables with a damaged word: ",
+        rt,
+        "number 1, tables with a damaged word: ",
         step(t, 0, Call::Exit).number,
-    );
+    )?;
     line(
-        b"number 1, fresh tables in a row of 10 words: ",
+        rt,
+        "number 1, fresh tables in a row of 10 words: ",
         build_fresh(&mut [0u32; 10]).number,
-    );
+    )
 }
 
-fn two(t: &mut [u32]) {
+fn two(rt: &impl Print, t: &mut [u32]) -> io::Result<()> {
     line(
-        b"number 2, process 64 clones: ",
+        rt,
+        "number 2, process 64 clones: ",
         step(t, PROCESSES, Call::Clone).number,
-    );
+    )?;
     line(
-        b"number 2, process 0 asks for access by ADMIN: ",
+        rt,
+        "number 2, process 0 asks for access by ADMIN: ",
         step(
             t,
             0,
@@ -47,19 +52,21 @@ fn two(t: &mut [u32]) {
             },
         )
         .number,
-    );
+    )
 }
 
-fn three(t: &mut [u32]) {
+fn three(rt: &impl Print, t: &mut [u32]) -> io::Result<()> {
     line(
-        b"number 3, process 5, which is not live, clones: ",
+        rt,
+        "number 3, process 5, which is not live, clones: ",
         step(t, 5, Call::Clone).number,
-    );
+    )
 }
 
-fn four(t: &mut [u32]) {
+fn four(rt: &impl Print, t: &mut [u32]) -> io::Result<()> {
     line(
-        b"number 4, process 0 asks READ on a free place: ",
+        rt,
+        "number 4, process 0 asks READ on a free place: ",
         step(
             t,
             0,
@@ -70,51 +77,56 @@ fn four(t: &mut [u32]) {
             },
         )
         .number,
-    );
+    )?;
     line(
-        b"number 4, process 0 executes a directory: ",
+        rt,
+        "number 4, process 0 executes a directory: ",
         step(t, 0, Call::Execute { file: 0 }).number,
-    );
+    )
 }
 
-fn five(t: &mut [u32]) {
+fn five(rt: &impl Print, t: &mut [u32]) -> io::Result<()> {
     line(
-        b"number 5, process 0 clones without CLONE: ",
+        rt,
+        "number 5, process 0 clones without CLONE: ",
         clone(t).number,
-    );
+    )?;
     line(
-        b"number 5, process 0 deletes the root without DELETE: ",
+        rt,
+        "number 5, process 0 deletes the root without DELETE: ",
         step(t, 0, Call::Delete { file: 0 }).number,
-    );
+    )
 }
 
 // The root, and a directory with a file in it, by a process that has DELETE to both.
-fn parents(t: &mut [u32]) {
-    granted(add_right(t, FILESYSTEM, 0, 0, CREATE));
-    granted(add_right(t, FILESYSTEM, 0, 0, DELETE));
-    granted(create(t, DIR, 0));
-    granted(create(t, FILE, 1));
+fn parents(rt: &impl Print, t: &mut [u32]) -> io::Result<()> {
+    granted(rt, add_right(t, FILESYSTEM, 0, 0, CREATE))?;
+    granted(rt, add_right(t, FILESYSTEM, 0, 0, DELETE))?;
+    granted(rt, create(t, DIR, 0))?;
+    granted(rt, create(t, FILE, 1))
 }
 
-fn six(t: &mut [u32]) {
-    parents(t);
+fn six(rt: &impl Print, t: &mut [u32]) -> io::Result<()> {
+    parents(rt, t)?;
     line(
-        b"number 6, process 0 deletes the root: ",
+        rt,
+        "number 6, process 0 deletes the root: ",
         step(t, 0, Call::Delete { file: 0 }).number,
-    );
+    )?;
     line(
-        b"number 6, process 0 deletes a directory with a file in it: ",
+        rt,
+        "number 6, process 0 deletes a directory with a file in it: ",
         step(t, 0, Call::Delete { file: 1 }).number,
-    );
+    )
 }
 
-pub(crate) fn run(t: &mut [u32]) {
+pub(crate) fn run(rt: &impl Print, t: &mut [u32]) -> io::Result<()> {
     build_fresh(t);
-    one(t);
+    one(rt, t)?;
     build_fresh(t);
-    two(t);
-    three(t);
-    four(t);
-    five(t);
-    six(t);
+    two(rt, t)?;
+    three(rt, t)?;
+    four(rt, t)?;
+    five(rt, t)?;
+    six(rt, t)
 }

@@ -1,68 +1,58 @@
 // How a trial is told: its words, then the numbers that it came to.
-use libc::STDOUT_FILENO;
 use model::{Answer, Found};
+use std::io;
 use tables::cases::forced_word;
 use tables::records::process_at;
 
-fn say(text: &[u8]) {
-    io::write_all(STDOUT_FILENO, text);
-}
-
 // Words and a number after them.
-pub(crate) fn part(text: &[u8], n: u32) {
-    say(text);
-    io::print_decimal(STDOUT_FILENO, n as u64);
+pub(crate) fn part(rt: &impl Print, text: &str, n: u32) -> io::Result<()> {
+    print!(rt; "{text}{n}")
 }
 
 // The last words of a line and a number after them; a trial that comes to one number has no others.
-pub(crate) fn line(text: &[u8], n: u32) {
-    part(text, n);
-    say(b"\n");
+pub(crate) fn line(rt: &impl Print, text: &str, n: u32) -> io::Result<()> {
+    println!(rt; "{text}{n}")
 }
 
 // A trial that comes to yes or no.
-pub(crate) fn holds(text: &[u8], ok: bool) {
-    say(text);
-    if ok {
-        say(b"yes\n");
-    } else {
-        say(b"no\n");
-    }
+pub(crate) fn holds(rt: &impl Print, text: &str, ok: bool) -> io::Result<()> {
+    let told = if ok { "yes" } else { "no" };
+    println!(rt; "{text}{told}")
 }
 
 // A trial whose answer carries a place.
-pub(crate) fn placed(text: &[u8], a: Answer) {
-    part(text, a.number);
-    line(b", place ", a.place);
+pub(crate) fn placed(rt: &impl Print, text: &str, a: Answer) -> io::Result<()> {
+    println!(rt; "{text}{}, place {}", a.number, a.place)
 }
 
 // A trial of a query.
-pub(crate) fn climbed(text: &[u8], found: Found) {
-    part(text, found.number);
-    part(b", value ", found.value);
-    part(b", parents climbed ", found.climbed);
-    line(b", place ", found.place);
+pub(crate) fn climbed(rt: &impl Print, text: &str, found: Found) -> io::Result<()> {
+    println!(rt;
+        "{text}{}, value {}, parents climbed {}, place {}",
+        found.number, found.value, found.climbed, found.place
+    )
 }
 
 // A trial that comes to what a process then is.
-pub(crate) fn process(text: &[u8], t: &[u32], p: u32) {
+pub(crate) fn process(rt: &impl Print, text: &str, t: &[u32], p: u32) -> io::Result<()> {
     let found = process_at(t, p);
-    let forced = found.forced;
-    say(text);
-    part(b": role ", found.role);
-    part(b", type ", found.rctype);
-    line(b", forced ", forced_word(forced));
+    println!(rt;
+        "{text}: role {}, type {}, forced {}",
+        found.role,
+        found.rctype,
+        forced_word(found.forced)
+    )
 }
 
 // How often a call was granted, and the number that the next one got.
-pub(crate) fn counted(n: u32, text: &[u8], next: u32) {
-    io::print_decimal(STDOUT_FILENO, n as u64);
-    line(text, next);
+pub(crate) fn counted(rt: &impl Print, n: u32, text: &str, next: u32) -> io::Result<()> {
+    println!(rt; "{n}{text}{next}")
 }
 
 // A call that a trial needs granted first: only a refusal is told.
-pub(crate) fn granted(a: Answer) {
+pub(crate) fn granted(rt: &impl Print, a: Answer) -> io::Result<()> {
     if a.number != 0 {
-        line(b"a call that must be granted got ", a.number);
+        line(rt, "a call that must be granted got ", a.number)?;
     }
+    Ok(())
 }
