@@ -53,8 +53,8 @@ fn put_answer(s: &mut [u8], k: usize, answer: Answer)
 
 // All items in their order, each answered in its place.
 fn make_all(t: &mut [u32], calls: &[u8], answers: &mut [u8])
-    requires t_value { well_formed t.old ≡ true }
-    requires calls_in_bounds { items_of calls.now * ANSWER-BYTES ≤ length answers.old }
+    requires tables_formed { well_formed t.old ≡ true }
+    requires answers_fit { items_of calls.now * ANSWER-BYTES ≤ length answers.old }
     ensures { (t.new ≡ tables_after t.old calls.now (items_of calls.now)) × (answers.new ≡ answers_after t.old calls.now answers.old (items_of calls.now)) }
 {
     let items = count(calls);

@@ -1,5 +1,3 @@
--- The invariant: of the values below k those that were set are kept anew.
--- Assumes nothing.
 use Rattle.std.proofs.Common.{refl, sym, ◌∙◌, arith, rules}
 use Rattle.administration.specs.Written.{along_below}
 use Rattle.administration.proofs.Along.{along-set, along-unset}

@@ -23,10 +23,10 @@ returns c =
     let all = c.make_all in
     rw (whole_drop _ ok all.new.t, c.grant.ensures, batch-granted _ _ _ none, all.ensures.0, all.ensures.1, whole_take _ ok)
 
-pub make_all-requires-clause-t_value : goal.make_all-requires-clause-t_value
-make_all-requires-clause-t_value c =
+pub make_all-requires-clause-tables_formed : goal.make_all-requires-clause-tables_formed
+make_all-requires-clause-tables_formed c =
     let ok = batch-formed _ _ _ (sym c.batch_no-number.ensures ∙ c.if-number-ne0.false) in
     rw (whole_take _ ok) ok
 
-pub make_all-requires-clause-calls_in_bounds : goal.make_all-requires-clause-calls_in_bounds
-make_all-requires-clause-calls_in_bounds c = batch-roomy _ _ _ (sym c.batch_no-number.ensures ∙ c.if-number-ne0.false)
+pub make_all-requires-clause-answers_fit : goal.make_all-requires-clause-answers_fit
+make_all-requires-clause-answers_fit c = batch-roomy _ _ _ (sym c.batch_no-number.ensures ∙ c.if-number-ne0.false)

@@ -1,6 +1,3 @@
--- The invariant: after k items the tables and the answers are those after k items. Well-formed tables stay so, so that making an item without their
--- test is making it through the one entry.
--- Assumes nothing.
 use Rattle.std.proofs.Common.{refl, rules}
 use Rattle.batch.specs.Batch.{answers_after, tables_after}
 use Rattle.batch.proofs.Laws.{one_more, tables-kept}
@@ -16,7 +13,7 @@ loop-k-preserved c =
     let t = c.args.t.now in
     let q = c.args.calls.now in
     let next =
-    one_more t q c.args.answers.now l.k _ _ _ _ (tables-kept t q l.k c.requires.t_value)
+    one_more t q c.args.answers.now l.k _ _ _ _ (tables-kept t q l.k c.requires.tables_formed)
     c.item_at.ensures
     (rw l.invariant.0 at c.make-answer.ensures)
     (rw l.invariant.1 at c.put_answer.ensures) in

@@ -1,4 +1,3 @@
--- The outer invariant: no role below r breaks the rule; the inner one: role r has no ASSIGN to a type below k. Either walk is left with 2.
 use Rattle.std.proofs.Common.{◌<◌, ◌≡◌, refl, sym, ◌∙◌, true, arith, rules}
 use mathlib.Core.Bool.{and-false}
 use Rattle.sets.specs.Below.{all_below}

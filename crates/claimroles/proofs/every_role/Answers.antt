@@ -1,4 +1,3 @@
--- The invariant: the flag tells of the roles below r.
 use Rattle.std.proofs.Common.{refl, rules}
 use Rattle.sets.specs.Below.{all_below}
 use Rattle.sets.specs.Sets.{has}

@@ -1,4 +1,3 @@
--- The invariant: the row has what the roles below r create.
 use Rattle.std.proofs.Common.{◌≡◌, sym, ◌∙◌, arith, rules}
 use Rattle.claimsets.specs.Family.{bears, born, row_of}
 use Rattle.claimsets.proofs.Family.{none-added, one-added, none_more}

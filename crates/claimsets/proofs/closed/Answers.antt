@@ -1,4 +1,3 @@
--- The invariant: the set so far has what is created below the types below k; at 32 one test of words is left.
 use Rattle.std.proofs.Common.{◌≡◌, sym, ◌∙◌, arith, rules}
 use Rattle.sets.proofs.Sets.{union-none, union-next}
 use Rattle.claimsets.specs.Family.{closed}

@@ -1,4 +1,3 @@
--- The invariant: the words below k have what the role creates, and the others are as they were.
 use Rattle.std.proofs.Common.{◌≡◌, arith}
 use Rattle.claimsets.proofs.Family.{is_row}
 use Rattle.claimsets.proofs.join_role.Goals as goal

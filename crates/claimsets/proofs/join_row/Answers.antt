@@ -1,5 +1,3 @@
--- The invariant: the words below k are joined, and the others are as they were; the walk ends at 32, or where the other slice ends.
--- Assumes nothing.
 use Rattle.std.proofs.Common.{◌≡◌, sym, ◌∙◌, ⊎_elim, arith, lt-ltb, ltb, length}
 use Rattle.sets.proofs.Below.{lt-or-le, walked-past}
 use Rattle.sets.proofs.Sets.{joined-none}

@@ -1,5 +1,3 @@
--- The invariant: the set so far has the types below k to which a role has the right, as the row of rights tells.
--- Assumes nothing.
 use Rattle.std.proofs.Common.{◌≡◌, refl, sym, ◌∙◌, add-one, arith, rules}
 use Rattle.sets.specs.Sets.{has, collect}
 use Rattle.sets.proofs.Sets.{collect-same}

@@ -1,5 +1,3 @@
--- The invariant: the row has the rights of the roles below r.
--- Assumes nothing.
 use Rattle.std.proofs.Common.{◌≡◌, sym, ◌∙◌, arith, rules}
 use Rattle.model.specs.Words.{◌!◌}
 use Rattle.model.specs.Layout.{rights_addr}

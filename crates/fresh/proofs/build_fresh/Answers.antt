@@ -1,5 +1,3 @@
--- The invariant: the first r roles are put. What all stores come to is computed once, in `built`.
--- Assumes nothing.
 use Rattle.std.proofs.Common.{◌≡◌, refl, ◌∙◌, arith, rules, eq-eqb, ne_eqb}
 use Rattle.model.specs.Numbers.{ROLES}
 use Rattle.model.specs.Layout.{row_length}

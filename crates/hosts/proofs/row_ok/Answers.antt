@@ -1,4 +1,3 @@
--- What was tried so far is the test of the length and of the records below the place.
 use Rattle.std.proofs.Common.{ℕ, ◌≡◌, ◌+◌, ◌∙◌, sym, refl, ap, Bool, true, false, ◌&&◌, List, length, eqb, arith, rules}
 use Rattle.sets.specs.Below.{all_below}
 use Rattle.sets.proofs.Below.{all-next}

@@ -1,6 +1,3 @@
--- The invariant: the places below o hold what C6 asks, and what they carry is found; a set that is known is closed. A place that does not hold
--- what it should breaks C6; after the walk, what was found tells of the rules 7 to 9.
--- Assumes nothing.
 use Rattle.std.proofs.Common.{◌≡◌, refl, sym, ◌∙◌, true, add-one, arith, rules}
 use borrow.Author.Tests.{not-true, not-false}
 use Rattle.sets.specs.Below.{all_below}

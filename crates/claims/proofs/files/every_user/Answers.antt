@@ -1,4 +1,3 @@
--- The invariant: the flag tells of the users below u.
 use Rattle.std.proofs.Common.{◌≡◌, refl, arith, rules}
 use Rattle.sets.specs.Below.{all_below}
 use Rattle.sets.proofs.Below.{all-next}

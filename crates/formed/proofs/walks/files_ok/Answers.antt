@@ -1,4 +1,3 @@
--- The walk has met no ill-formed file below k, nor a value kept that is not one step of the climb; the first that it meets is enough for the answer false.
 use Rattle.std.proofs.Common.{refl, sym, ◌∙◌, rules}
 use borrow.Author.Tests.{not-true, not-false}
 use Rattle.sets.specs.Below.{all_below}

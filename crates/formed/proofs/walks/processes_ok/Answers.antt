@@ -1,4 +1,3 @@
--- The walk has met no ill-formed process below k; the first that it meets is enough for the answer false.
 use Rattle.std.proofs.Common.{refl, sym, ◌∙◌, rules}
 use borrow.Author.Tests.{not-true, not-false}
 use Rattle.sets.specs.Below.{all_below}

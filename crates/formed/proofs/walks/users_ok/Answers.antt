@@ -1,4 +1,3 @@
--- The invariant: ok says whether every place below k is well formed.
 use Rattle.std.proofs.Common.{refl, rules}
 use Rattle.sets.specs.Below.{all_below}
 use Rattle.sets.proofs.Below.{all-next}

@@ -1,5 +1,3 @@
--- The invariant: d sweeps are made, and where the last one moved nothing, the next would not either.
--- Assumes nothing.
 use Rattle.std.proofs.Common.{ℕ, ◌-◌, false, List, refl, sym, ap, ◌∙◌, arith, rules}
 use mathlib.Core.Bool.{false≢true}
 use Rattle.sets.proofs.Below.{walks-below}

@@ -1,5 +1,3 @@
--- The invariant: the places below o are kept anew, and as long as none was written the row is as it was.
--- Assumes nothing.
 use Rattle.std.proofs.Common.{ℕ, ◌-◌, List, ◌≡◌, refl, sym, ap, ◌∙◌, arith, rules}
 use Rattle.sets.proofs.Below.{neither}
 use Rattle.model.specs.KeptValues.{kept_anew, swept}

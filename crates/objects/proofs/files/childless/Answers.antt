@@ -1,6 +1,3 @@
--- The loop has found no child below q; the first child that it meets is enough for the answer false.
--- It may start at the first place that names o: one below names another parent, and so holds no child of o.
--- Assumes nothing.
 use Rattle.std.proofs.Common.{ℕ, ◌≡◌, sym, ◌∙◌, true, List, arith, rules, eqb}
 use mathlib.Core.Bool.{or-true}
 use borrow.Author.Tests.{not-true, not-false}

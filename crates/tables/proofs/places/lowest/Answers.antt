@@ -1,4 +1,3 @@
--- The invariant: a is the address of word p, and no word below p is v. That a stays small is said without the product.
 use Rattle.std.proofs.Common.{◌≡◌, sym, arith, rules, eq-eqb}
 use Rattle.sets.proofs.Below.{first-is, first-none}
 use Rattle.tables.proofs.places.lowest.Goals as goal

@@ -1,5 +1,3 @@
--- The invariant: the words below k are the slice's, and the others are still zeros; the walk ends at 32, or where the slice ends.
--- Assumes nothing.
 use Rattle.std.proofs.Common.{refl, sym, ◌∙◌, ⊎_elim, zero-add, arith, below_none, rules, lt-ltb, ltb, length}
 use lib.ListN.{get_or-replicate}
 use Rattle.sets.proofs.Below.{lt-or-le, walked-past}

@@ -1,4 +1,3 @@
--- The invariant: what is left to put, from word k on, comes to the whole run over the row as it was.
 use Rattle.std.proofs.Common.{refl, sym, rules}
 use Rattle.model.specs.Words.{put}
 use Rattle.tables.proofs.Laws.{put-out}
