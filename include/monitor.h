@@ -9,9 +9,10 @@
    row, any number of the functions that take it as const may run together; rc_call, rc_batch and rc_fresh each want it
    alone, rc_batch also the answers and rc_setpoint the entries that they are lent.
 
-   The library is an archive, librcmonitor.a, for programs on x86-64 (System V calling convention); its code may also go
-   into a shared object. From outside it needs memset and memcpy. At the top of the repository `make lib` proves and
-   builds it, `make install` installs it, and `make example` runs two small programs that use it. */
+   The library is an archive, librcmonitor.a, for programs on x86-64-v2, that is with SSE4.2 and POPCNT (System V calling
+   convention); its code may also go into a shared object. From outside it needs memset and memcpy. At the top of the
+   repository `make lib` proves and builds it, `make install` installs it, and `make example` runs two small programs
+   that use it. */
 #ifndef RC_MONITOR_H
 #define RC_MONITOR_H
 
