@@ -1,7 +1,7 @@
 -- Not to be believed: an administration call in the two steps that the code makes, first its words, then what is kept goes with them.
 -- proofs/Along.antt puts them together again, and the contract speaks of the whole.
 -- Assumes nothing.
-use Rattle.std.specs.Prelude.{ℕ, zero, suc, ◌+◌, Bool, true, false, cond, not, List, [], ◌∷◌, eqb, set}
+use Rattle.std.specs.Prelude.{ℕ, zero, suc, ◌+◌, Bool, cond, not, List, [], ◌∷◌, eqb, set, Option, Some, None}
 use Rattle.model.specs.declared.Change.{Change}
 use Rattle.model.specs.Numbers.{FILESYSTEM}
 use Rattle.model.specs.Layout.{INITIAL, KEPT-TYPE, KEPT-WORDS, file_addr}
@@ -24,32 +24,35 @@ writing_on t c (Change.SetType g o v) = ruled (set_type_no t c g o v) 0 (set t (
 writing_on t c (Change.AddRight g r k right) = ruling_on t c (Change.AddRight g r k right)
 writing_on t c (Change.RemoveRight g r k right) = ruling_on t c (Change.RemoveRight g r k right)
 
--- no value of a file
-abbrev pub no_values : FileValues
-no_values = record { set = false; roles = false; file = 0 }
+-- the values of a file that a change sets, if it sets any
+unfoldable pub values_of : Change → Option FileValues
+values_of (Change.AddRole s r member) = None
+values_of (Change.RemoveRole s r member) = None
+values_of (Change.SetUserRole u r) = None
+values_of (Change.SetProgramRoles f initial forced) = Some (FileValues.Roles f)
+values_of (Change.SetProcessForced p v) = None
+values_of (Change.SetDefaultType which r v) = None
+values_of (Change.SetRoleAdmin r mark) = None
+values_of (Change.SetType g o v) = cond (eqb g FILESYSTEM) (Some (FileValues.Type o)) None
+values_of (Change.AddRight g r k right) = None
+values_of (Change.RemoveRight g r k right) = None
 
--- the values of a file that a change sets
-unfoldable pub values_of : Change → FileValues
-values_of (Change.AddRole s r member) = no_values
-values_of (Change.RemoveRole s r member) = no_values
-values_of (Change.SetUserRole u r) = no_values
-values_of (Change.SetProgramRoles f initial forced) = record { set = true; roles = true; file = f }
-values_of (Change.SetProcessForced p v) = no_values
-values_of (Change.SetDefaultType which r v) = no_values
-values_of (Change.SetRoleAdmin r mark) = no_values
-values_of (Change.SetType g o v) = record { set = eqb g FILESYSTEM; roles = false; file = o }
-values_of (Change.AddRight g r k right) = no_values
-values_of (Change.RemoveRight g r k right) = no_values
+-- the file
+abbrev pub file_of : FileValues → ℕ
+file_of (FileValues.Type f) = f
+file_of (FileValues.Roles f) = f
 
 -- whether value k is among them
-unfoldable pub is_set : FileValues → ℕ → Bool
-is_set v k = cond (eqb k KEPT-TYPE) (not v.roles) v.roles
+abbrev pub sets : FileValues → ℕ → Bool
+sets (FileValues.Type f) k = eqb k KEPT-TYPE
+sets (FileValues.Roles f) k = not (eqb k KEPT-TYPE)
 
 -- of the values below n each that was set is kept anew, one after the other
 unfoldable pub along_below : ℕ → List ℕ → FileValues → List ℕ
 along_below zero u v = u
-along_below (suc k) u v = cond (is_set v k) (revalued (along_below k u v) k v.file) (along_below k u v)
+along_below (suc k) u v = cond (sets v k) (revalued (along_below k u v) k (file_of v)) (along_below k u v)
 
 -- what is kept goes with them
-unfoldable pub along_with : List ℕ → FileValues → List ℕ
-along_with u v = cond v.set (along_below KEPT-WORDS u v) u
+abbrev pub along_with : List ℕ → Option FileValues → List ℕ
+along_with u None = u
+along_with u (Some v) = along_below KEPT-WORDS u v

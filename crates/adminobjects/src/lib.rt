@@ -1,5 +1,5 @@
 // The administration calls on objects (rules 27, 28, 29 and 32, H4, H7, H8 and H10): the initial and forced values of a file, the forced value of a
-// process, the type of any object. Each decides a number, and where that is 0 writes its words; what is kept of a file `administration` then moves.
+// process, the type of any object. Each is refused, or writes its words; what is kept of a file `administration` then moves.
 #![tactic(auto)]
 
 ghost use Rattle.std.specs.Prelude.{◌+◌, ◌≡◌, [], ◌∷◌, set};
@@ -7,60 +7,77 @@ ghost use Rattle.model.specs.declared.Change.{Change};
 ghost use Rattle.model.specs.Layout.{INITIAL, file_addr};
 ghost use Rattle.model.specs.Words.{put};
 ghost use Rattle.model.specs.Outcome.{outcome, decide, carry_out};
+ghost use Rattle.model.specs.Refusals.{code, answer_of};
 ghost use Rattle.model.specs.Administration.{modify_no, program_roles_no, set_type_no, inherited as inherited_of, assigned_type, type_addr, ruling_on};
 
-use caller::{may, may_assign, passes};
-use decisions::{decide_word, decide_words};
+use caller::Caller;
 use kept::type_of;
-use model::Answer;
+use model::Refusal;
 use model::layout::{
     FILE_TYPE, INITIAL, IPC_TYPE, KEPT_TYPE, PARENT, PROCESS_FORCED, PROCESS_TYPE,
 };
 use model::numbers::{
     ASSIGN, FILESYSTEM, INHERIT_PARENT, MODIFY_ATTRIBUTE, PROCESS, ROOT, ROOT_TYPE,
 };
-use rules::refusal::{first, unless};
+use rules::refusal::refused_unless;
 use tables::addresses::{file_addr, ipc_addr, process_addr};
 use tables::places::occupied;
 use tables::records::{file_word, kept_at};
+use tables::words::{put_words, set_word};
 
 // What is set of an object (rules 27, 28, 29 and 32): it is there, own role has MODIFY_ATTRIBUTE to its type, and what else the rule asks holds.
-fn modify_no(t: &[u32], caller: u32, group: u32, object: u32, rule: bool) -> u32
-    ensures { result ≡ modify_no t.now caller group object rule }
+#[tactic(auto, unfolding(model::specs::Administration::modify_no))]
+fn check_modify(me: Caller, group: u32, object: u32, rule: bool) -> Result<(), Refusal>
+    ensures { code result ≡ modify_no me.entry.tables.now me.entry.process group object rule }
 {
-    let modifies = may(
-        t,
-        caller,
-        group,
-        type_of(t, group, object),
-        MODIFY_ATTRIBUTE,
-    );
-    first(
-        unless(4, occupied(t, group, object)),
-        unless(5, passes(t, caller, rule & modifies)),
-    )
+    refused_unless(Refusal::NoSuchPlace, occupied(me.tables, group, object))?;
+    let rctype = type_of(me.tables, group, object);
+    let modifies = me.may(group, rctype, MODIFY_ATTRIBUTE);
+    refused_unless(Refusal::NotAllowed, me.passes(rule && modifies))
 }
 
 // A program's roles, the initial and the forced value of a file at once (rules 27 and 28, W-207); a special value is in no role set (H7).
-pub fn set_program_roles(t: &mut [u32], caller: u32, file: u32, initial: u32, forced: u32) -> Answer
-    ensures { outcome result t.new ≡ decide t.old (program_roles_no t.old caller file initial forced) 0 (put t.old (file_addr file + INITIAL) (initial ∷ forced ∷ [])) }
+#[tactic(auto, using(model::proofs::Ends::ends), unfolding(model::specs::Administration::program_roles_no))]
+pub fn set_program_roles(
+    t: &mut [u32],
+    caller: u32,
+    file: u32,
+    initial: u32,
+    forced: u32,
+) -> Result<u32, Refusal>
+    ensures { outcome (answer_of result) t.new ≡ decide t.old (program_roles_no t.old caller file initial forced) 0 (put t.old (file_addr file + INITIAL) (initial ∷ forced ∷ [])) }
 {
-    let both = may_assign(t, caller, initial) & may_assign(t, caller, forced);
-    let number = modify_no(t, caller, FILESYSTEM, file, both);
-    let at = file_addr(file) + (INITIAL as usize);
-    decide_words(t, number, 0, at, &[initial, forced])
+    let me = Caller {
+        tables: t,
+        process: caller,
+    };
+    let both = me.may_assign(initial) && me.may_assign(forced);
+    check_modify(me, FILESYSTEM, file, both)?;
+    put_words(t, file_addr(file) + (INITIAL as usize), &[initial, forced]);
+    Ok(0)
 }
 
 // A process's forced value (rule 29, H7); its current role does not move (H8).
-pub fn set_process_forced(t: &mut [u32], caller: u32, process: u32, value: u32) -> Answer
-    ensures { outcome result t.new ≡ carry_out t.old (ruling_on t.old caller (Change.SetProcessForced process value)) }
+#[tactic(auto, using(model::proofs::Ends::ends), unfolding(model::specs::Administration::ruling_on, model::specs::Administration::set_process_forced_row))]
+pub fn set_process_forced(
+    t: &mut [u32],
+    caller: u32,
+    process: u32,
+    value: u32,
+) -> Result<u32, Refusal>
+    ensures { outcome (answer_of result) t.new ≡ carry_out t.old (ruling_on t.old caller (Change.SetProcessForced process value)) }
 {
-    let assigns = may_assign(t, caller, value);
-    let number = modify_no(t, caller, PROCESS, process, assigns);
-    decide_word(t, number, process_addr(process) + PROCESS_FORCED, value)
+    let me = Caller {
+        tables: t,
+        process: caller,
+    };
+    check_modify(me, PROCESS, process, me.may_assign(value))?;
+    set_word(t, process_addr(process) + PROCESS_FORCED, value);
+    Ok(0)
 }
 
 // H10: the effective type that a file would have if it inherited; at a root, that of a root without a type.
+#[tactic(auto, unfolding(model::specs::Administration::inherited))]
 fn inherited(t: &[u32], file: u32) -> u32
     ensures { result ≡ inherited_of t.now file }
 {
@@ -72,6 +89,7 @@ fn inherited(t: &[u32], file: u32) -> u32
 }
 
 // The type that ASSIGN is asked to.
+#[tactic(auto, unfolding(model::specs::Administration::assigned_type))]
 fn assigned_type(t: &[u32], object: u32, value: u32) -> u32
     ensures { result ≡ assigned_type t.now object value }
 {
@@ -96,10 +114,22 @@ fn type_addr(group: u32, object: u32) -> usize
 }
 
 // An object's type: ASSIGN to the new one (rule 32, H10).
-pub fn set_type(t: &mut [u32], caller: u32, group: u32, object: u32, value: u32) -> Answer
-    ensures { outcome result t.new ≡ decide t.old (set_type_no t.old caller group object value) 0 (set t.old (type_addr group object) value) }
+#[tactic(auto, using(model::proofs::Ends::ends), unfolding(model::specs::Administration::set_type_no))]
+pub fn set_type(
+    t: &mut [u32],
+    caller: u32,
+    group: u32,
+    object: u32,
+    value: u32,
+) -> Result<u32, Refusal>
+    ensures { outcome (answer_of result) t.new ≡ decide t.old (set_type_no t.old caller group object value) 0 (set t.old (type_addr group object) value) }
 {
-    let assigns = may(t, caller, group, assigned_type(t, object, value), ASSIGN);
-    let number = modify_no(t, caller, group, object, assigns);
-    decide_word(t, number, type_addr(group, object), value)
+    let me = Caller {
+        tables: t,
+        process: caller,
+    };
+    let assigns = me.may(group, assigned_type(t, object, value), ASSIGN);
+    check_modify(me, group, object, assigns)?;
+    set_word(t, type_addr(group, object), value);
+    Ok(0)
 }

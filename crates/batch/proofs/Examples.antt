@@ -14,25 +14,27 @@ use Rattle.model.specs.WellFormed.{well_formed}
 use Rattle.model.specs.Words.{block, put}
 use Rattle.model.proofs.FreshFormed.{fresh-formed}
 use Rattle.marked.proofs.Computing.{acting, step-acting}
-use Rattle.decoding.specs.declared.Decoded.{Decoded}
+use Rattle.std.specs.Prelude.{Option, Some, None}
+use Rattle.model.specs.declared.Call.{Call}
 use Rattle.decoding.specs.Kinds.{CALL-ACCESS, CALL-ADD-RIGHT, CALL-CLONE, CALL-EXIT, takes, decode_of}
-use Rattle.kinds.specs.ByKind.{written}
+use Rattle.kinds.specs.ByKind.{step_by_kind, written}
 use Rattle.kinds.proofs.ByKind.{done-written}
 use Rattle.batch.specs.declared.items.Item.{Item}
-use Rattle.batch.specs.Items.{ITEM-BYTES, call_in, item_of, made, padded}
+use Rattle.batch.specs.Items.{ITEM-BYTES, item_of, made, padded}
 use Rattle.batch.specs.Batch.{ANSWER-BYTES, answers_after, batch, batch_no, item_at, items, tables_after}
 use Rattle.batch.proofs.Laws.{batch-granted, tables-kept}
 
 -- ---- what is computed
 
-abbrev acts : List ℕ → Item → Decoded → Outcome
-acts t i Decoded.Unknown = refusing 2 t
-acts t i (Decoded.Known call) = acting t i.caller call
+abbrev acts : List ℕ → ℕ → Option Call → Outcome
+acts t caller None = refusing 2 t
+acts t caller (Some call) = acting t caller call
 
 -- an item on tables that are well formed; its line names all that an item is made of
-unfoldable makes : List ℕ → Item → Outcome
-unfolding acting call_in decode_of takes all_below
-makes t i = acts t i (call_in i)
+unfoldable makes : List ℕ → Option Item → Outcome
+unfolding acting decode_of takes all_below
+makes t None = refusing 2 t
+makes t (Some i) = acts t i.caller (decode_of i.kind i.numbers)
 
 -- the tables and the slice after k items
 abbrev Both : Type 0
@@ -48,13 +50,14 @@ ran t q s (suc k) = one_more k (ran t q s k).1 (makes (ran t q s k).0 (item_at q
 
 -- ---- that it is what the definition says
 
-acts-written : (t : List ℕ) (i : Item) (what : Decoded) → well_formed t ≡ true → acts t i what ≡ written t i.caller what
-acts-written t i Decoded.Unknown w = done-written t i.caller Decoded.Unknown w
-acts-written t i (Decoded.Known call) w = sym (step-acting t i.caller call w)
+acts-written : (t : List ℕ) (caller : ℕ) (what : Option Call) → well_formed t ≡ true → acts t caller what ≡ written t caller what
+acts-written t caller None w = done-written t caller None w
+acts-written t caller (Some call) w = sym (step-acting t caller call w)
 
-made-makes : (t : List ℕ) (i : Item) → well_formed t ≡ true → made t i ≡ makes t i
-unfolding made makes
-made-makes t i w = sym (acts-written t i (call_in i) w)
+made-makes : (t : List ℕ) (i : Option Item) → well_formed t ≡ true → made t i ≡ makes t i
+unfolding made makes step_by_kind
+made-makes t None w = sym (done-written t 0 None w)
+made-makes t (Some i) w = sym (acts-written t i.caller (decode_of i.kind i.numbers) w)
 
 after-ran : (t q s : List ℕ) (k : ℕ) → well_formed t ≡ true → (tables_after t q k, answers_after t q s k) ≡ ran t q s k
 unfolding tables_after answers_after ran

@@ -13,56 +13,56 @@ use lib.Dec.{eqb}
 use lib.ListN.{length}
 use Rattle.sets.proofs.Below.{by_bool}
 use Rattle.model.specs.declared.Answer.{Answer}
-use Rattle.model.specs.Outcome.{Outcome, outcome, refusing}
+use Rattle.model.specs.Outcome.{Outcome, outcome}
 use Rattle.model.specs.WellFormed.{well_formed}
 use Rattle.model.specs.Words.{put}
 use Rattle.model.proofs.Decided.{decided, eqb-iff, neb-iff, tested}
 use Rattle.model.proofs.Kept.{step_kept}
 use Rattle.promises.proofs.Changes.{every-answer-fits-two-bytes}
-use Rattle.decoding.specs.declared.Decoded.{Decoded}
-use Rattle.kinds.specs.ByKind.{act_by_kind, step_by_kind, written}
+use Rattle.std.specs.Prelude.{Option, Some, None}
+use Rattle.decoding.specs.Kinds.{decode_of}
+use Rattle.model.specs.declared.Call.{Call}
+use Rattle.formed.proofs.Whole.{whole_drop, whole-fits, whole_length, whole_take}
+use Rattle.kinds.specs.ByKind.{step_by_kind, written}
 use Rattle.kinds.proofs.ByKind.{done-written, on-well-formed-tables-act-by-kind-is-step-by-kind, written-ill}
 use Rattle.batch.specs.declared.items.Item.{Item}
-use Rattle.batch.specs.Items.{call_in, made}
+use Rattle.batch.specs.Items.{acted, made}
 use Rattle.batch.specs.Batch.{ANSWER-BYTES, Batch, answer_to, answers_after, batch, batch_no, batched, item_at, items, tables_after}
 
 -- ---- what was written
 
 module _ (t : List ℕ) (caller : ℕ) where
-  written-kept : (what : Decoded) → well_formed t ≡ true → well_formed (written t caller what).after ≡ true
-  written-kept Decoded.Unknown w = decided t _ 0 t (λ u. well_formed u ≡ true) w (λ z. w)
-  written-kept (Decoded.Known call) w = step_kept t caller call w
+  written-kept : (what : Option Call) → well_formed t ≡ true → well_formed (written t caller what).after ≡ true
+  written-kept None w = decided t _ 0 t (λ u. well_formed u ≡ true) w (λ z. w)
+  written-kept (Some call) w = step_kept t caller call w
 
   abbrev Fits : Answer → Type 0
   Fits a = (a.number < 256) × (a.place < 256)
 
-  written-fits : (what : Decoded) → Fits (written t caller what).answer
-  written-fits Decoded.Unknown =
-      by_bool (λ b. Fits (written t caller Decoded.Unknown).answer) (well_formed t)
-      (λ w. rw (sym (done-written t caller Decoded.Unknown w)) (omega arith, omega arith))
-      (λ w. rw (written-ill t caller Decoded.Unknown w) (omega arith, omega arith))
-  written-fits (Decoded.Known call) = every-answer-fits-two-bytes t caller call
+  written-fits : (what : Option Call) → Fits (written t caller what).answer
+  written-fits None =
+      by_bool (λ b. Fits (written t caller None).answer) (well_formed t)
+      (λ w. rw (sym (done-written t caller None w)) (omega arith, omega arith))
+      (λ w. rw (written-ill t caller None w) (omega arith, omega arith))
+  written-fits (Some call) = every-answer-fits-two-bytes t caller call
 
 -- ---- an item
 
-module _ (t : List ℕ) (i : Item) where
-  abbrev acted : Outcome
-  acted = cond i.padded (act_by_kind t i.kind i.caller i.numbers) (refusing 2 t)
-
-  pub acted-made : well_formed t ≡ true → acted ≡ made t i
-  unfolding made call_in step_by_kind
-  acted-made w =
-      by_bool (λ b. acted ≡ made t i) i.padded
-      (λ e. rw e (on-well-formed-tables-act-by-kind-is-step-by-kind t i.kind i.caller i.numbers w))
-      (λ e. rw e (done-written t i.caller Decoded.Unknown w))
-
-  pub made_kept : well_formed t ≡ true → well_formed (made t i).after ≡ true
+module _ (t : List ℕ) where
+  pub acted-made : (i : Option Item) → well_formed t ≡ true → acted t i ≡ made t i
   unfolding made
-  made_kept w = written-kept t i.caller (call_in i) w
+  acted-made None w = done-written t 0 None w
+  acted-made (Some i) w = on-well-formed-tables-act-by-kind-is-step-by-kind t i.kind i.caller i.numbers w
 
-  pub made-fits : ((made t i).answer.number < 256) × ((made t i).answer.place < 256)
-  unfolding made
-  made-fits = written-fits t i.caller (call_in i)
+  pub made_kept : (i : Option Item) → well_formed t ≡ true → well_formed (made t i).after ≡ true
+  unfolding made step_by_kind
+  made_kept None w = written-kept t 0 None w
+  made_kept (Some i) w = written-kept t i.caller (decode_of i.kind i.numbers) w
+
+  pub made-fits : (i : Option Item) → ((made t i).answer.number < 256) × ((made t i).answer.place < 256)
+  unfolding made step_by_kind
+  made-fits None = written-fits t 0 None
+  made-fits (Some i) = written-fits t i.caller (decode_of i.kind i.numbers)
 
 -- ---- one item more
 
@@ -82,20 +82,25 @@ module _ (t q : List ℕ) where
   tables-kept (suc k) w = made_kept (tables_after t q k) (item_at q k) (tables-kept k w)
 
 -- as the loop has it in hand: the item was answered v and left the row u, and v was put into the slice
-pub one_more : (t q s : List ℕ) (k : ℕ) (i : Item) (v : Answer) (u r : List ℕ) → well_formed (tables_after t q k) ≡ true
-    → i ≡ item_at q k
-    → outcome v u ≡ acted (tables_after t q k) i
-    → r ≡ put (answers_after t q s k) (k * ANSWER-BYTES) (v.number % 256 ∷ v.place % 256 ∷ [])
-    → (u ≡ tables_after t q (k + 1)) × (r ≡ answers_after t q s (k + 1))
-one_more t q s k i v u r w ei ev er =
-    let m : outcome v u ≡ made (tables_after t q k) (item_at q k) = (rw ei at ev) ∙ acted-made (tables_after t q k) (item_at q k) w in
-    let a : v ≡ answer_to t q k = ap (λ (o : Outcome). o.answer) m in
-    let fits = made-fits (tables_after t q k) (item_at q k) in
-    let n : (answer_to t q k).number % 256 ≡ (answer_to t q k).number = omega (arith, fits.0) in
-    let p : (answer_to t q k).place % 256 ≡ (answer_to t q k).place = omega (arith, fits.1) in (
-      ap (λ (o : Outcome). o.after) m ∙ sym (tables-next t q k),
-      er ∙ rw (a, n, p, answers_next t q s k),
-    )
+module _ (t q : List ℕ) (k : ℕ) (now : List ℕ) (i : Option Item) (v : Answer) (u : List ℕ) where
+  answered : well_formed t ≡ true → now ≡ tables_after t q k → i ≡ item_at q k → outcome v u ≡ acted now i
+      → outcome v u ≡ made (tables_after t q k) (item_at q k)
+  answered w en ei ev = (rw (ei, en) at ev) ∙ acted-made (tables_after t q k) (item_at q k) (tables-kept t q k w)
+
+  pub row_more : well_formed t ≡ true → now ≡ tables_after t q k → i ≡ item_at q k → outcome v u ≡ acted now i
+      → u ≡ tables_after t q (k + 1)
+  row_more w en ei ev = ap (λ (o : Outcome). o.after) (answered w en ei ev) ∙ sym (tables-next t q k)
+
+  pub slice_more : (s r x : List ℕ) → well_formed t ≡ true → now ≡ tables_after t q k → i ≡ item_at q k → outcome v u ≡ acted now i
+      → x ≡ answers_after t q s k
+      → r ≡ put x (k * ANSWER-BYTES) (v.number % 256 ∷ v.place % 256 ∷ [])
+      → r ≡ answers_after t q s (k + 1)
+  slice_more s r x w en ei ev ex er =
+      let a : v ≡ answer_to t q k = ap (λ (o : Outcome). o.answer) (answered w en ei ev) in
+      let fits = made-fits (tables_after t q k) (item_at q k) in
+      let n : (answer_to t q k).number % 256 ≡ (answer_to t q k).number = omega (arith, fits.0) in
+      let p : (answer_to t q k).place % 256 ≡ (answer_to t q k).place = omega (arith, fits.1) in
+      er ∙ rw (ex, a, n, p, answers_next t q s k)
 
 -- ---- the whole batch
 
@@ -134,3 +139,7 @@ module _ (t q s : List ℕ) where
   pub batch-roomy : batch_no t q s ≡ 0 → items q * ANSWER-BYTES ≤ length s
   unfolding batch_no
   batch-roomy e = (simp tested at e).1.1
+
+-- a granted batch is lent well-formed tables, and their part of full length is all of them
+pub ruleset lent =
+    (batch-refused, batch-granted, batch-formed, batch-roomy, whole_drop, whole-fits, whole_length, whole_take)

@@ -12,10 +12,13 @@ use Rattle.model.specs.WellFormed.{well_formed}
 use Rattle.model.specs.Words.{◌!◌, put}
 use Rattle.model.proofs.Words.{put-length, word-put-other, word-set-other, word-set-same}
 use Rattle.promises.proofs.Changes.{a-refused-call-changes-nothing}
-use Rattle.decoding.specs.declared.Decoded.{Decoded}
+use Rattle.std.specs.Prelude.{Option, Some, None}
+use Rattle.decoding.specs.Kinds.{decode_of}
+use Rattle.model.specs.declared.Call.{Call}
 use Rattle.kinds.specs.ByKind.{step_by_kind, written}
 use Rattle.kinds.proofs.ByKind.{done-written, written-ill}
-use Rattle.batch.specs.Items.{call_in, made}
+use Rattle.batch.specs.declared.items.Item.{Item}
+use Rattle.batch.specs.Items.{call_in, item_of, made}
 use Rattle.batch.specs.Batch.{ANSWER-BYTES, answer_to, answers_after, item_at, items, tables_after}
 use Rattle.batch.specs.Promises.{A-granted-batch-is-its-items-one-by-one, A-refused-item-changes-nothing, An-item-is-its-call-by-kind, An-item-that-is-no-call-is-2, Every-items-answer-fits-its-bytes, The-rest-of-the-answers-stays}
 use Rattle.batch.proofs.Laws.{batch-granted, batch-number, batch-roomy, either_way, made-fits}
@@ -23,32 +26,38 @@ use Rattle.batch.proofs.Laws.{batch-granted, batch-number, batch-roomy, either_w
 -- ---- one item
 
 pub an-item-is-its-call-by-kind : An-item-is-its-call-by-kind
-unfolding made call_in step_by_kind
-an-item-is-its-call-by-kind t i e = rw e
+unfolding made item_of
+an-item-is-its-call-by-kind t = (λ i. refl, λ b e. rw e)
 
 pub an-item-that-is-no-call-is-2 : An-item-that-is-no-call-is-2
-unfolding made
-an-item-that-is-no-call-is-2 t i w e = rw e (sym (done-written t i.caller Decoded.Unknown w))
+unfolding made call_in step_by_kind
+an-item-that-is-no-call-is-2 t None w e = sym (done-written t 0 None w)
+an-item-that-is-no-call-is-2 t (Some i) w e = rw e (sym (done-written t i.caller None w))
 
 pub every-items-answer-fits-its-bytes : Every-items-answer-fits-its-bytes
 every-items-answer-fits-its-bytes t q k = made-fits (tables_after t q k) (item_at q k)
 
 module _ (t : List ℕ) (caller : ℕ) where
   -- what is no call leaves the row and answers no place, with whichever number
-  pub unknown-stays : ((written t caller Decoded.Unknown).after ≡ t) × ((written t caller Decoded.Unknown).answer.place ≡ 0)
+  pub unknown-stays : ((written t caller None).after ≡ t) × ((written t caller None).answer.place ≡ 0)
   unknown-stays =
-      by_bool (λ b. ((written t caller Decoded.Unknown).after ≡ t) × ((written t caller Decoded.Unknown).answer.place ≡ 0)) (well_formed t)
-      (λ w. rw (sym (done-written t caller Decoded.Unknown w)) (refl, refl))
-      (λ w. rw (written-ill t caller Decoded.Unknown w) (refl, refl))
+      by_bool (λ b. ((written t caller None).after ≡ t) × ((written t caller None).answer.place ≡ 0)) (well_formed t)
+      (λ w. rw (sym (done-written t caller None w)) (refl, refl))
+      (λ w. rw (written-ill t caller None w) (refl, refl))
 
-  refused-stays : (what : Decoded) → (written t caller what).answer.number ≢ 0
+  refused-stays : (what : Option Call) → (written t caller what).answer.number ≢ 0
       → ((written t caller what).after ≡ t) × ((written t caller what).answer.place ≡ 0)
-  refused-stays Decoded.Unknown h = unknown-stays
-  refused-stays (Decoded.Known call) h = a-refused-call-changes-nothing t caller call h
+  refused-stays None h = unknown-stays
+  refused-stays (Some call) h = a-refused-call-changes-nothing t caller call h
+
+refused-item-stays : (t : List ℕ) (i : Option Item) → (made t i).answer.number ≢ 0 → ((made t i).after ≡ t) × ((made t i).answer.place ≡ 0)
+unfolding made step_by_kind
+refused-item-stays t None h = unknown-stays t 0
+refused-item-stays t (Some i) h = refused-stays t i.caller (decode_of i.kind i.numbers) h
 
 pub a-refused-item-changes-nothing : A-refused-item-changes-nothing
-unfolding tables_after made
-a-refused-item-changes-nothing t q k h = refused-stays (tables_after t q k) (item_at q k).caller (call_in (item_at q k)) h
+unfolding tables_after
+a-refused-item-changes-nothing t q k h = refused-item-stays (tables_after t q k) (item_at q k) h
 
 -- ---- the slice of answers
 

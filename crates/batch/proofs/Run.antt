@@ -6,12 +6,14 @@ use mathlib.Core.List.{List, [], ◌∷◌, ◌++◌}
 use mathlib.Core.Path.{◌∙◌, ◌≡◌, ap, refl, sym}
 use Rattle.model.specs.WellFormed.{well_formed}
 use Rattle.model.specs.Runs.{Event, after, happens}
-use Rattle.decoding.specs.declared.Decoded.{Decoded}
-use Rattle.kinds.specs.ByKind.{written}
+use Rattle.std.specs.Prelude.{Option, Some, None}
+use Rattle.decoding.specs.Kinds.{decode_of}
+use Rattle.model.specs.declared.Call.{Call}
+use Rattle.kinds.specs.ByKind.{step_by_kind, written}
 use Rattle.batch.specs.declared.items.Item.{Item}
-use Rattle.batch.specs.Items.{call_in, made}
+use Rattle.batch.specs.Items.{made}
 use Rattle.batch.specs.Batch.{item_at, items, tables_after}
-use Rattle.batch.specs.Promises.{A-batch-keeps-the-tables-well-formed, A-granted-batch-is-a-run, asked, asked_by}
+use Rattle.batch.specs.Promises.{A-batch-keeps-the-tables-well-formed, A-granted-batch-is-a-run, asked, asked_by, said_by}
 use Rattle.batch.proofs.Laws.{batch-granted, batch-number, either_way, tables-kept}
 use Rattle.batch.proofs.OneByOne.{unknown-stays}
 
@@ -20,18 +22,23 @@ unfolding after
 after_both [] more t = refl
 after_both (e ∷ run) more t = after_both run more (happens t e).after
 
-after-item : (t : List ℕ) (i : Item) (what : Decoded) → (written t i.caller what).after ≡ after t (asked_by i what)
+after-written : (t : List ℕ) (caller : ℕ) (what : Option Call) → (written t caller what).after ≡ after t (said_by caller what)
 unfolding after
-after-item t i Decoded.Unknown = (unknown-stays t i.caller).0
-after-item t i (Decoded.Known call) = refl
+after-written t caller None = (unknown-stays t caller).0
+after-written t caller (Some call) = refl
+
+after-item : (t : List ℕ) (i : Option Item) → (made t i).after ≡ after t (asked_by i)
+unfolding made after step_by_kind
+after-item t None = (unknown-stays t 0).0
+after-item t (Some i) = after-written t i.caller (decode_of i.kind i.numbers)
 
 tables-run : (t q : List ℕ) (k : ℕ) → tables_after t q k ≡ after t (asked q k)
-unfolding tables_after asked made after
+unfolding tables_after asked after
 tables-run t q zero = refl
 tables-run t q (suc k) =
     ap (λ (u : List ℕ). (made u (item_at q k)).after) (tables-run t q k)
-    ∙ after-item (after t (asked q k)) (item_at q k) (call_in (item_at q k))
-    ∙ sym (after_both (asked q k) (asked_by (item_at q k) (call_in (item_at q k))) t)
+    ∙ after-item (after t (asked q k)) (item_at q k)
+    ∙ sym (after_both (asked q k) (asked_by (item_at q k)) t)
 
 pub a-granted-batch-is-a-run : A-granted-batch-is-a-run
 a-granted-batch-is-a-run t q s g = rw (batch-granted t q s (sym (batch-number t q s) ∙ g)) (tables-run t q (items q))

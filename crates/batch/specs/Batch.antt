@@ -1,7 +1,7 @@
 -- A night's calls at once (W-205): for every row, requests and slice for answers the one answer, the one row and the one slice afterwards. The
 -- items are made one by one, each on what those before it leave.
 -- Assumes nothing.
-use Rattle.std.specs.Prelude.{ℕ, zero, suc, ◌*◌, ◌/◌, ◌%◌, Bool, cond, ◌&&◌, List, [], ◌∷◌, eqb, leb, drop, length, take}
+use Rattle.std.specs.Prelude.{ℕ, zero, suc, ◌*◌, ◌/◌, ◌%◌, Bool, cond, ◌&&◌, List, [], ◌∷◌, eqb, leb, drop, length, take, Option}
 use Rattle.model.specs.declared.Answer.{Answer}
 use Rattle.model.specs.Numbers.{◌unless◌, ◌▹◌}
 use Rattle.model.specs.WellFormed.{well_formed}
@@ -20,7 +20,7 @@ abbrev pub items : List ℕ → ℕ
 items q = length q / ITEM-BYTES
 
 -- item k of them
-abbrev pub item_at : List ℕ → ℕ → Item
+abbrev pub item_at : List ℕ → ℕ → Option Item
 item_at q k = item_of (take ITEM-BYTES (drop (k * ITEM-BYTES) q))
 
 -- the row after the first k items

@@ -1,15 +1,16 @@
 -- What is promised of a batch, each as a sentence: a type whose name says it, proved under the same name in small letters (proofs).
 -- Assumes nothing.
-use Rattle.std.specs.Prelude.{ℕ, zero, suc, ◌+◌, ◌*◌, ◌<◌, ◌≤◌, true, List, [], ◌∷◌, ◌++◌, ◌↔◌, ◌≢◌, ◌≡◌, length}
+use Rattle.std.specs.Prelude.{ℕ, zero, suc, ◌+◌, ◌*◌, ◌<◌, ◌≤◌, true, List, [], ◌∷◌, ◌++◌, ◌↔◌, ◌≢◌, ◌≡◌, length, Option, Some, None}
+use Rattle.model.specs.declared.Call.{Call}
 use Rattle.model.specs.Outcome.{refusing}
 use Rattle.model.specs.WellFormed.{well_formed}
-use Rattle.model.specs.Words.{◌!◌}
+use Rattle.model.specs.Words.{◌!◌, block}
 use Rattle.model.specs.Runs.{Event, after, asks}
 use Rattle.promises.specs.Tests.{FirstFails, Hold, Test, ◌if_not◌}
 use Rattle.kinds.specs.ByKind.{step_by_kind}
-use Rattle.decoding.specs.declared.Decoded.{Decoded}
+use Rattle.decoding.specs.Kinds.{NUMBERS, decode_of}
 use Rattle.batch.specs.declared.items.Item.{Item}
-use Rattle.batch.specs.Items.{call_in, made}
+use Rattle.batch.specs.Items.{CALLER-BYTE, KIND-BYTE, NUMBERS-AT, call_in, item_of, made, padded}
 use Rattle.batch.specs.Batch.{ANSWER-BYTES, answer_to, batch, batched, item_at, items, roomy, tables_after, whole}
 
 -- ---- granted and refused exactly when
@@ -37,14 +38,18 @@ No-items-is-a-grant-with-nothing-written =
 
 -- ---- one by one
 
--- An item whose bytes past the numbers are 0 comes to what its kind, caller and numbers come to through the entry by kind.
+-- An item comes to what its kind, caller and numbers come to through the entry by kind, and bytes that are 0 past the numbers are an item.
 abbrev pub An-item-is-its-call-by-kind : Type 0
 An-item-is-its-call-by-kind =
-    (t : List ℕ) (i : Item) → i.padded ≡ true → made t i ≡ step_by_kind t i.kind i.caller i.numbers
+    (t : List ℕ)
+    → ((i : Item) → made t (Some i) ≡ step_by_kind t i.kind i.caller i.numbers)
+    × ((b : List ℕ)
+    → padded b ≡ true
+    → made t (item_of b) ≡ step_by_kind t (b ! KIND-BYTE) (b ! CALLER-BYTE) (block b NUMBERS-AT NUMBERS))
 
 -- One that says no call, by its kind, its numbers or what stands past them, is 2 for itself and changes nothing.
 abbrev pub An-item-that-is-no-call-is-2 : Type 0
-An-item-that-is-no-call-is-2 = (t : List ℕ) (i : Item) → well_formed t ≡ true → call_in i ≡ Decoded.Unknown → made t i ≡ refusing 2 t
+An-item-that-is-no-call-is-2 = (t : List ℕ) (i : Option Item) → well_formed t ≡ true → call_in i ≡ None → made t i ≡ refusing 2 t
 
 -- In a granted batch each item's answer stands in its two bytes, the number and then the place, as the item is answered on the tables that those
 -- before it leave; and the tables afterwards are those after all items.
@@ -78,14 +83,19 @@ Every-items-answer-fits-its-bytes = (t q : List ℕ) (k : ℕ) → ((answer_to t
 
 -- ---- a batch is a run
 
--- what the first k items ask, in their order; what is no call asks nothing
-abbrev pub asked_by : Item → Decoded → List Event
-asked_by i Decoded.Unknown = []
-asked_by i (Decoded.Known call) = asks i.caller call ∷ []
+-- what is no call asks nothing
+abbrev pub said_by : ℕ → Option Call → List Event
+said_by caller None = []
+said_by caller (Some call) = asks caller call ∷ []
 
+abbrev pub asked_by : Option Item → List Event
+asked_by None = []
+asked_by (Some i) = said_by i.caller (decode_of i.kind i.numbers)
+
+-- what the first k items ask, in their order
 unfoldable pub asked : List ℕ → ℕ → List Event
 asked q zero = []
-asked q (suc k) = asked q k ++ asked_by (item_at q k) (call_in (item_at q k))
+asked q (suc k) = asked q k ++ asked_by (item_at q k)
 
 -- The tables after a granted batch are those after the run of its calls, so that what is promised of runs holds of batches, demand 3 too.
 abbrev pub A-granted-batch-is-a-run : Type 0

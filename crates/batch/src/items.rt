@@ -7,36 +7,31 @@ ghost use Rattle.batch.specs.Batch.{items};
 
 pub const ITEM_BYTES: usize = 16;
 
-// A kind, a caller and numbers, and whether all that stands past them is 0.
-#[derive(Clone, Copy)]
+// A kind, a caller and numbers.
+#[derive(Clone, Copy, Debug, PartialEq, Eq)]
 pub struct Item {
     pub kind: u32,
     pub caller: u32,
     pub numbers: [u32; 5],
-    pub padded: bool,
-}
-
-fn wide(x: u8) -> u32
-    ensures { result ≡ x }
-{
-    x as u32
 }
 
 // The byte at i; past the end it is 0.
 fn byte(b: &[u8], i: usize) -> u32
     ensures { result ≡ b.now ! i }
 {
-    if i < b.len() { wide(b[i]) } else { 0 }
+    u32::from(b.get(i).copied().unwrap_or(0))
 }
 
 // The call's numbers, one byte each.
+#[tactic(auto, unfolding(model::specs::Words::block))]
 fn numbers(b: &[u8]) -> [u32; 5]
     ensures { result ≡ block b.now NUMBERS-AT NUMBERS }
 {
     [byte(b, 2), byte(b, 3), byte(b, 4), byte(b, 5), byte(b, 6)]
 }
 
-// Whether every byte past the numbers is 0.
+// Whether every byte past the numbers is 0; by `&`, so that the compiler reads eight of them at once.
+#[tactic(auto, unfolding(crate::specs::Items::padded, sets::specs::Below::all_below))]
 fn padded(b: &[u8]) -> bool
     ensures { result ≡ padded_of b.now }
 {
@@ -51,17 +46,19 @@ fn padded(b: &[u8]) -> bool
         & (byte(b, 15) == 0)
 }
 
-// The item that these bytes are.
-pub fn read(b: &[u8]) -> Item
+// The item that these bytes are, if all that stands past its numbers is 0.
+#[tactic(auto, unfolding(crate::specs::Items::item_of))]
+pub fn read(b: &[u8]) -> Option<Item>
     ensures { result ≡ item_of b.now }
 {
-    let n = numbers(b);
-    Item {
+    if !padded(b) {
+        return None;
+    }
+    Some(Item {
         kind: byte(b, 0),
         caller: byte(b, 1),
-        numbers: n,
-        padded: padded(b),
-    }
+        numbers: numbers(b),
+    })
 }
 
 // How many whole items were sent.

@@ -2,26 +2,27 @@
 // tested once: every call keeps them well formed.
 #![tactic(auto)]
 
-ghost use Rattle.std.specs.Prelude.{◌≡◌, true, cond, [], ◌∷◌, ◌+◌, ◌*◌, ◌%◌, ◌<◌, ◌≤◌, length};
-ghost use Rattle.model.specs.Outcome.{outcome, refusing};
+ghost use Rattle.std.specs.Prelude.{◌≡◌, true, [], ◌∷◌, ◌+◌, ◌*◌, ◌%◌, ◌<◌, ◌≤◌, length};
+ghost use Rattle.model.specs.Outcome.{outcome};
+ghost use Rattle.model.specs.Refusals.{code, answer_of};
 ghost use Rattle.model.specs.WellFormed.{well_formed};
 ghost use Rattle.model.specs.Words.{put};
-ghost use Rattle.kinds.specs.ByKind.{act_by_kind};
+ghost use Rattle.batch.specs.Items.{acted};
 ghost use Rattle.batch.specs.Batch.{ANSWER-BYTES, items as items_of, item_at, tables_after, answers_after, batch_no, batched, batch as batch_of};
 
 use formed::well_formed;
 use items::{ITEM_BYTES, Item, count, read};
 use kinds::act_by_kind;
-use model::Answer;
 use model::layout::ROW_LENGTH;
-use rules::refusal::{first, grant, refusal, unless};
+use model::{Answer, Refusal};
+use rules::refusal::refused_unless;
 
 mod items;
 
 const ANSWER_BYTES: usize = 2;
 
 // Item k of what was sent.
-fn item_at(calls: &[u8], k: usize) -> Item
+fn item_at(calls: &[u8], k: usize) -> Option<Item>
     requires { k < items_of calls.now }
     ensures { result ≡ item_at calls.now k }
 {
@@ -31,17 +32,17 @@ fn item_at(calls: &[u8], k: usize) -> Item
 }
 
 // One item on tables that are known to be well formed.
-fn make(t: &mut [u32], item: Item) -> Answer
-    ensures { outcome result t.new ≡ cond item.padded (act_by_kind t.old item.kind item.caller item.numbers) (refusing 2 t.old) }
+fn make(t: &mut [u32], item: Option<Item>) -> Answer
+    ensures { outcome result t.new ≡ acted t.old item }
 {
-    if !item.padded {
-        return refusal(2);
+    match item {
+        None => Answer::from(Err(Refusal::OutOfRange)),
+        Some(item) => act_by_kind(t, item.kind, item.caller, item.numbers),
     }
-    let numbers = item.numbers;
-    act_by_kind(t, item.kind, item.caller, numbers)
 }
 
 // The answer to item k, in its two bytes. That number and place fit these is promised of every answer.
+#[tactic(auto, unfolding(model::specs::Words::put))]
 fn put_answer(s: &mut [u8], k: usize, answer: Answer)
     requires { k * ANSWER-BYTES + ANSWER-BYTES ≤ length s.old }
     ensures { s.new ≡ put s.old (k * ANSWER-BYTES) (answer.number % 256 ∷ answer.place % 256 ∷ []) }
@@ -52,36 +53,35 @@ fn put_answer(s: &mut [u8], k: usize, answer: Answer)
 }
 
 // All items in their order, each answered in its place.
+#[tactic(auto, unfolding(crate::specs::Batch::tables_after, crate::specs::Batch::answers_after))]
 fn make_all(t: &mut [u32], calls: &[u8], answers: &mut [u8])
     requires tables_formed { well_formed t.old ≡ true }
     requires answers_fit { items_of calls.now * ANSWER-BYTES ≤ length answers.old }
-    ensures { (t.new ≡ tables_after t.old calls.now (items_of calls.now)) × (answers.new ≡ answers_after t.old calls.now answers.old (items_of calls.now)) }
+    ensures made { t.new ≡ tables_after t.old calls.now (items_of calls.now) }
+    ensures answered { answers.new ≡ answers_after t.old calls.now answers.old (items_of calls.now) }
 {
-    let items = count(calls);
-    let mut k = 0;
-    while k < items {
+    for k in 0..count(calls) {
         let answer = make(t, item_at(calls, k));
         put_answer(answers, k, answer);
-        k += 1;
     }
 }
 
-// The number of the whole batch: the tables first, then whole items, and room for an answer to each.
-fn batch_no(t: &[u32], calls: &[u8], answers: &[u8]) -> u32
-    ensures { result ≡ batch_no t.now calls.now answers.now }
+// The tests of the whole batch: the tables first, then whole items, and room for an answer to each.
+#[tactic(auto, unfolding(crate::specs::Batch::batch_no))]
+fn check_batch(t: &[u32], calls: &[u8], answers: &[u8]) -> Result<(), Refusal>
+    ensures { code result ≡ batch_no t.now calls.now answers.now }
 {
-    let fits = (calls.len() % ITEM_BYTES == 0) & (count(calls) * ANSWER_BYTES <= answers.len());
-    first(unless(1, well_formed(t)), unless(2, fits))
+    let fits = calls.len() % ITEM_BYTES == 0 && count(calls) * ANSWER_BYTES <= answers.len();
+    refused_unless(Refusal::IllFormed, well_formed(t))?;
+    refused_unless(Refusal::OutOfRange, fits)
 }
 
 // Makes all calls that were sent, and answers each; refused as a whole, it makes none and writes nothing.
-pub fn batch(t: &mut [u32], calls: &[u8], answers: &mut [u8]) -> Answer
-    ensures { batched result t.new answers.new ≡ batch_of t.old calls.now answers.old }
+#[tactic(auto, using(crate::proofs::Laws::lent))]
+pub fn batch(t: &mut [u32], calls: &[u8], answers: &mut [u8]) -> Result<u32, Refusal>
+    ensures { batched (answer_of result) t.new answers.new ≡ batch_of t.old calls.now answers.old }
 {
-    let number = batch_no(t, calls, answers);
-    if number != 0 {
-        return refusal(number);
-    }
+    check_batch(t, calls, answers)?;
     make_all(&mut t[..ROW_LENGTH], calls, answers);
-    grant(0)
+    Ok(0)
 }

@@ -1,7 +1,7 @@
 -- The parts of C2 make up the rule again: a walk over groups within one over types is one over types.
 use Prim.Native.Nat.{ℕ, ◌+◌, ◌<◌}
-use mathlib.Core.Path.{◌≡◌, refl, sym, ◌∙◌}
-use mathlib.Core.Bool.{Bool, true, false, not, ◌&&◌, ◌||◌}
+use mathlib.Core.Path.{◌≡◌, refl, ◌∙◌}
+use mathlib.Core.Bool.{true, false, not, ◌&&◌, ◌||◌, and-false}
 use mathlib.Core.List.{List}
 use native.Mathlib.Omega.{arith}
 use Rattle.sets.specs.Below.{all_below, some_below}
@@ -45,13 +45,16 @@ c2-keeps t w = refl
 pub c2-broken : (t w : List ℕ) (r : ℕ) → r < 32 → keeps t w r ≡ false → 2 ≡ (2 unless C2 t w)
 c2-broken t w r l e = rw (c2-keeps t w, all-miss (keeps t w) 32 r l e)
 
--- it is in S and keeps the rule, or is not in S
-pub kept : (mine able none : Bool) → (mine && not able) ≡ false → (mine ≡ true → none ≡ true) → (not mine || (able && none)) ≡ true
-kept false able none e h = refl
-kept true true none e h = h refl
-kept true false none e h = sym e
+module _ (t w : List ℕ) (r : ℕ) where
+  -- a role in S keeps the rule, where both of its tests hold
+  pub keeps_mine : has (S w) r ≡ true → unempowered (role_at t r) ≡ true → all_below TYPES (λ k. not (assigns_to t r k)) ≡ true → keeps t w r ≡ true
+  keeps_mine m u a = rw (keeps-is t w r, m, u, assigns-none t r, a)
 
-pub lost : (mine able none : Bool) → (mine && not able) ≡ true → (not mine || (able && none)) ≡ false
-lost false able none e = sym e
-lost true true none e = let z : ◌≡◌ {A = ℕ} 0 1 = cc in absurd (omega arith)
-lost true false none e = refl
+  pub keeps_other : has (S w) r ≡ false → keeps t w r ≡ true
+  keeps_other m = rw (keeps-is t w r, m)
+
+  pub loses_able : has (S w) r ≡ true → unempowered (role_at t r) ≡ false → keeps t w r ≡ false
+  loses_able m u = rw (keeps-is t w r, m, u)
+
+  pub loses_assigning : (k : ℕ) → has (S w) r ≡ true → k < 32 → assigns_to t r k ≡ true → keeps t w r ≡ false
+  loses_assigning k m l a = rw (keeps-is t w r, m, assigned t r k l a, and-false)

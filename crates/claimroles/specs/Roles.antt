@@ -1,13 +1,13 @@
--- Not to be believed: rules C1 to C5 cut into the parts that the checker tests one by one. proofs/Roles.antt puts them together again, and the
--- checker's contract speaks of the whole rules.
+-- Not to be believed: the first five of the rules of a claim, which depend on roles alone, and C2 cut into the parts that the checker tests one by
+-- one. proofs/Roles.antt puts those together again, and the checker's contract speaks of all nine rules.
 -- Assumes nothing.
-use Rattle.std.specs.Prelude.{ℕ, Bool, cond, not, ◌&&◌, ◌||◌, List, eqb}
+use Rattle.std.specs.Prelude.{ℕ, Bool, not, ◌&&◌, ◌||◌, List, eqb}
 use Rattle.sets.specs.Below.{some_below}
-use Rattle.sets.specs.Sets.{has, inside}
+use Rattle.sets.specs.Sets.{has}
 use Rattle.model.specs.declared.Role.{Role}
 use Rattle.model.specs.Numbers.{◌unless◌, ◌▹◌, GROUPS, ASSIGN}
-use Rattle.model.specs.Records.{role_at, has_right}
-use Rattle.model.specs.Claims.{type_in, S, Q, powerless, spares, stays_in, C1, C2, C3, C4, C5}
+use Rattle.model.specs.Records.{has_right}
+use Rattle.model.specs.Claims.{S, powerless, C1, C2, C3, C4, C5}
 
 -- C2 of a role's record: it is not Role Admin and has no admin or assign role
 abbrev pub unempowered : Role → Bool
@@ -24,11 +24,6 @@ assigns_to t r k = some_below GROUPS (λ g. has_right t g r k ASSIGN)
 -- C2 of the number r: it is not in S, or a powerless role
 unfoldable pub keeps : List ℕ → List ℕ → ℕ → Bool
 keeps t w r = not (has (S w) r) || powerless t r
-
--- what rule n, 3 to 5, asks of role r
-unfoldable pub asks : List ℕ → List ℕ → ℕ → ℕ → Bool
-asks t w n r =
-    cond (eqb n 3) (spares t (type_in w) r) (cond (eqb n 4) (inside (role_at t r).compatible.bits (S w)) (stays_in (Q w) (role_at t r)))
 
 -- the first of the rules 1 to 5 that is broken
 unfoldable pub by_roles : List ℕ → List ℕ → ℕ

@@ -1,20 +1,26 @@
 // Rules C6 to C9: what stands at the file places, which of it the roles of S can start, and which values that carries.
-ghost use Rattle.std.specs.Prelude.{◌≡◌};
-ghost use Rattle.model.specs.Claims.{own_forced};
-ghost use Rattle.claims.specs.Parts.{last_closed, holds_by, carried_alone, carried_with, C8By, every_user, C9By, by_carried, by_files};
+ghost use Rattle.std.specs.Prelude.{◌≡◌, ◌+◌, true, ◌||◌, IfOk};
+ghost use Rattle.sets.specs.Below.{all_below};
+ghost use Rattle.sets.specs.Sets.{has};
+ghost use Rattle.model.specs.Numbers.{◌unless◌, INHERIT-USER, UP-MIXED};
+ghost use Rattle.model.specs.Records.{user_role as user_role_of};
+ghost use Rattle.model.specs.Refusals.{first_broken};
+ghost use Rattle.model.specs.Claims.{S, own_forced, carried as carried_of, holds, C6, C8, C9};
+ghost use Rattle.claimsets.specs.Family.{EVERY-ROLE, born, row_of, reach as reach_of, closed as closed_of};
+ghost use Rattle.claims.specs.Parts.{Settled, Adds, Tells, by_files};
 
 use claimroles::plain_in;
 use claimsets::{EVERY_ROLE, births, closed, reach};
-use model::layout::{CLAIM_PROCESS, KEPT_FORCED, KEPT_INITIAL, KEPT_TYPE, KIND};
+use model::Rule;
+use model::layout::{KEPT_FORCED, KEPT_INITIAL, KEPT_TYPE, KIND};
 use model::numbers::{
-    CHANGE_OWNER, DIR, EXECUTE, FILES, FILESYSTEM, FREE, INHERIT_USER, PROCESS, UP_MIXED, USERS,
+    CHANGE_OWNER, DIR, EXECUTE, FILES, FILESYSTEM, FREE, INHERIT_PARENT, INHERIT_USER, PROCESS,
+    UP_MIXED, USERS,
 };
-use rules::refusal::{first, unless};
-use sets::RoleSet;
-use tables::cases::forced_word;
-use tables::claim::{process_types_in, roles_in, types_in};
+use rules::refusal::keeps;
+use sets::{RoleSet, all};
+use tables::claim::Claim;
 use tables::records::{file_word, kept_at, process_at, user_role};
-use tables::words::word;
 
 // What is carried so far: whether all plain values are in S (C7), which special values there are, and the two values that were found last.
 #[derive(Clone, Copy)]
@@ -26,137 +32,130 @@ pub struct Carried {
     pub forced: u32,
 }
 
-// The last set that was found closed: of a DIR these types where they are, and else the one known before. A set that is known is not closed again.
-fn last_closed(row: [u32; 32], known: RoleSet, kind: u32, types: RoleSet) -> RoleSet
-    ensures { result.bits ≡ last_closed row known.bits kind types.bits }
-{
-    if kind != DIR {
-        return known;
+// Nothing is carried; an inherited value is neither plain nor one of the two special ones.
+const NOTHING: Carried = Carried {
+    plain: true,
+    user: false,
+    mixed: false,
+    initial: INHERIT_PARENT,
+    forced: INHERIT_PARENT,
+};
+
+impl Carried {
+    // And with an initial and a forced value, of an object that a role in S can start; values that were found last add nothing.
+    fn with(self, s: RoleSet, initial: u32, forced: u32) -> Carried
+        ensures { Settled s.bits self → Adds s.bits self initial forced result }
+    {
+        if initial == self.initial && forced == self.forced {
+            return self;
+        }
+        Carried {
+            plain: self.plain && plain_in(s, initial) && plain_in(s, forced),
+            user: self.user || forced == INHERIT_USER,
+            mixed: self.mixed || forced == UP_MIXED,
+            initial,
+            forced,
+        }
     }
-    if types.bits == known.bits {
-        return known;
+
+    // And with object o, where its types meet those that a role in S can start.
+    #[tactic(auto, using(crate::proofs::Parts::objects), unfolding(model::specs::Claims::startable, model::specs::Claims::starts))]
+    fn with_object(self, claim: Claim<'_>, o: u32, started: RoleSet) -> Carried
+        ensures { started.bits ≡ reach_of claim.entry.tables.now (S claim.entry.words.now) FILESYSTEM EXECUTE → Tells claim.entry.tables.now claim.entry.words.now o self → Tells claim.entry.tables.now claim.entry.words.now (o + 1) result }
+    {
+        let t = claim.tables;
+        if claim.types(o).meets(started) {
+            let initial = kept_at(t, KEPT_INITIAL, o);
+            self.with(claim.roles(), initial, kept_at(t, KEPT_FORCED, o))
+        } else {
+            self
+        }
     }
-    if closed(row, types) { types } else { known }
 }
 
-// C6 of a place: T of a free place is empty; T(o) holds o's effective type; that of a DIR is the last set found closed.
-fn holds(t: &[u32], o: u32, kind: u32, types: RoleSet, known: RoleSet) -> bool
-    ensures { result ≡ holds_by t.now o kind types.bits known.bits }
+// C6 of a place: T of a free place is empty; T(o) holds o's effective type; that of a DIR is closed, as the set known is: it is not closed again.
+#[tactic(auto, using(crate::proofs::Parts::places), unfolding(model::specs::Claims::holds))]
+fn holds(claim: Claim<'_>, o: u32, row: [u32; 32], known: RoleSet) -> bool
+    ensures { row ≡ row_of (born claim.entry.tables.now EVERY-ROLE) → closed_of row known.bits ≡ true → result ≡ holds claim.entry.tables.now claim.entry.words.now o }
 {
+    let types = claim.types(o);
+    let kind = file_word(claim.tables, o, KIND);
+    let own = types.has(kept_at(claim.tables, KEPT_TYPE, o));
     if kind == FREE {
-        return types.bits == 0;
+        types.bits == 0
+    } else if kind == DIR {
+        own && (types == known || closed(row, types))
+    } else {
+        own
     }
-    let own = types.has(kept_at(t, KEPT_TYPE, o));
-    if kind != DIR {
-        return own;
-    }
-    own & (types.bits == known.bits)
 }
 
 // The process's forced value.
-fn own_forced(t: &[u32], w: &[u32]) -> u32
-    ensures { result ≡ own_forced t.now w.now }
+fn own_forced(claim: Claim<'_>) -> u32
+    ensures { result ≡ own_forced claim.entry.tables.now claim.entry.words.now }
 {
-    let forced = process_at(t, word(w, CLAIM_PROCESS)).forced;
-    forced_word(forced)
-}
-
-// What the process carries by itself.
-fn carried_alone(s: RoleSet, own: u32) -> Carried
-    ensures { result ≡ carried_alone s.bits own }
-{
-    Carried {
-        plain: plain_in(s, own),
-        user: own == INHERIT_USER,
-        mixed: own == UP_MIXED,
-        initial: own,
-        forced: own,
-    }
-}
-
-// And with an object that a role in S can start; values that were found last add nothing.
-fn carried_with(found: Carried, s: RoleSet, initial: u32, forced: u32) -> Carried
-    ensures { result ≡ carried_with found s.bits initial forced }
-{
-    if (initial == found.initial) & (forced == found.forced) {
-        return found;
-    }
-    Carried {
-        plain: found.plain & plain_in(s, initial) & plain_in(s, forced),
-        user: found.user | (forced == INHERIT_USER),
-        mixed: found.mixed | (forced == UP_MIXED),
-        initial,
-        forced,
-    }
+    u32::from(process_at(claim.tables, claim.process()).forced)
 }
 
 // C8: if inherit user is carried, the default role of the process's owner is in S.
-fn c8(t: &[u32], w: &[u32], s: RoleSet, user: bool) -> bool
-    ensures { result ≡ C8By t.now w.now s.bits user }
+#[tactic(auto, unfolding(model::specs::Claims::C8))]
+fn c8(claim: Claim<'_>, user: bool) -> bool
+    ensures { user ≡ carried_of claim.entry.tables.now claim.entry.words.now INHERIT-USER → result ≡ C8 claim.entry.tables.now claim.entry.words.now }
 {
-    let me = process_at(t, word(w, CLAIM_PROCESS));
-    !user | s.has(user_role(t, me.owner))
+    let me = process_at(claim.tables, claim.process());
+    !user || claim.roles().has(user_role(claim.tables, me.owner))
 }
 
 // Whether every user's default role is in the set.
 fn every_user(t: &[u32], set: RoleSet) -> bool
-    ensures { result ≡ every_user t.now set.bits }
+    ensures { result ≡ all_below USERS (λ u. has set.bits (user_role_of t.now u)) }
 {
-    let mut ok = true;
-    let mut u: u32 = 0;
-    while u < USERS {
-        ok = ok & set.has(user_role(t, u));
-        u += 1;
-    }
-    ok
+    all(USERS, |u| set.has(user_role(t, u)))
 }
 
 // C9: if a role in S has CHANGE_OWNER to a type in Q, and a value that follows the owner is carried, every user's default role is in S.
-fn c9(t: &[u32], w: &[u32], s: RoleSet, follows: bool) -> bool
-    ensures { result ≡ C9By t.now w.now s.bits follows }
+#[tactic(auto, using(crate::proofs::Parts::objects), unfolding(model::specs::Claims::C9))]
+fn c9(claim: Claim<'_>, follows: bool) -> bool
+    ensures { follows ≡ (carried_of claim.entry.tables.now claim.entry.words.now INHERIT-USER || carried_of claim.entry.tables.now claim.entry.words.now UP-MIXED) → result ≡ C9 claim.entry.tables.now claim.entry.words.now }
 {
-    if !follows | every_user(t, s) {
-        return true;
-    }
-    !process_types_in(w).meets(reach(t, s, PROCESS, CHANGE_OWNER))
+    let s = claim.roles();
+    !follows
+        || every_user(claim.tables, s)
+        || !claim
+            .process_types()
+            .meets(reach(claim.tables, s, PROCESS, CHANGE_OWNER))
 }
 
-// The first of the rules 7 to 9 that is broken, where it is known what is carried.
-fn by_carried(t: &[u32], w: &[u32], s: RoleSet, found: Carried) -> u32
-    ensures { result ≡ by_carried t.now w.now s.bits found }
+// C6, and what is carried where it holds, by one walk over the files. An outsider may create too, so C6 counts all 32 roles.
+#[tactic(auto, using(crate::proofs::Parts::walks), unfolding(model::specs::Claims::C6, crate::specs::Parts::plain_below, crate::specs::Parts::carried_below))]
+fn walk_files(claim: Claim<'_>) -> Result<Carried, Rule>
+    ensures broken { first_broken result ≡ 6 unless C6 claim.entry.tables.now claim.entry.words.now }
+    ensures tells { IfOk result (Tells claim.entry.tables.now claim.entry.words.now FILES) }
 {
-    let seven = unless(7, found.plain);
-    let eight = unless(8, c8(t, w, s, found.user));
-    let nine = unless(9, c9(t, w, s, found.user | found.mixed));
-    first(seven, first(eight, nine))
-}
-
-// The first of the rules 6 to 9 that is broken, by one walk over the files. An outsider may create too, so C6 counts all 32 roles.
-pub fn by_files(t: &[u32], w: &[u32]) -> u32
-    ensures { result ≡ by_files t.now w.now }
-{
-    let s = roles_in(w);
+    let t = claim.tables;
+    let s = claim.roles();
     let started = reach(t, s, FILESYSTEM, EXECUTE);
     let row = births(t, RoleSet { bits: EVERY_ROLE });
+    let own = own_forced(claim);
     let mut known = RoleSet { bits: 0 };
-    let mut found = carried_alone(s, own_forced(t, w));
-    let mut o: u32 = 0;
-    while o < FILES {
-        let types = types_in(w, o);
-        let kind = file_word(t, o, KIND);
-        known = last_closed(row, known, kind, types);
-        if !holds(t, o, kind, types, known) {
-            return 6;
+    let mut found = NOTHING.with(s, own, own);
+    for o in 0..FILES {
+        keeps(Rule::C6, holds(claim, o, row, known))?;
+        if file_word(t, o, KIND) == DIR {
+            known = claim.types(o);
         }
-        if types.meets(started) {
-            found = carried_with(
-                found,
-                s,
-                kept_at(t, KEPT_INITIAL, o),
-                kept_at(t, KEPT_FORCED, o),
-            );
-        }
-        o += 1;
+        found = found.with_object(claim, o, started);
     }
-    by_carried(t, w, s, found)
+    Ok(found)
+}
+
+// The first of the rules 6 to 9 that is broken.
+#[tactic(auto, unfolding(crate::specs::Parts::by_files, crate::specs::Parts::plain_below, crate::specs::Parts::carried_below, model::specs::Claims::C7, model::specs::Claims::carried))]
+pub fn by_files(claim: Claim<'_>) -> Result<(), Rule>
+    ensures { first_broken result ≡ by_files claim.entry.tables.now claim.entry.words.now }
+{
+    let found = walk_files(claim)?;
+    keeps(Rule::C7, found.plain)?;
+    keeps(Rule::C8, c8(claim, found.user))?;
+    keeps(Rule::C9, c9(claim, found.user || found.mixed))
 }

@@ -1,67 +1,41 @@
 -- What is worked out of the roles once says what the rules of a claim say role by role: a walk over roles and a walk over types
--- may change places, and a union of sets is tested by one word.
-use Prim.Native.Nat.{ℕ, zero, suc, ◌+◌, ◌<◌}
-use mathlib.Core.Path.{◌≡◌, refl, sym, ap, ◌∙◌}
-use mathlib.Core.Bool.{true, false, cond, not, ◌&&◌, ◌||◌}
-use mathlib.Core.List.{List}
-use mathlib.Core.Logic.{⊎_elim}
-use native.Mathlib.Nat.{add-zero, not-suc-le-zero, le_of_suc-le-suc}
-use native.Mathlib.Omega.{arith}
-use borrow.Author.Tests.{eqb-true, eqb-false, eq-eqb, le-leb, lt-leb}
-use lib.Dec.{leb, eqb}
-use lib.ListN.{length}
-use lib.Seq.{ext_get_or}
+-- may change places, and a union of sets is inside another where each of them is.
+use Rattle.std.proofs.Common.{◌≡◌, refl, sym, ◌∙◌, ℕ, ◌<◌, ◌+◌, ◌-◌, Bool, true, false, cond, not, ◌&&◌, ◌||◌, List, length, take, drop, ⊎_elim, arith}
+use Rattle.std.proofs.lemmas.Bool.Decides.{eqb_tells}
+use Rattle.std.proofs.lemmas.List.FromFn.{get_or-map-range_with_len}
+use mathlib.Core.Bool.{or-false, or-true}
+use borrow.Author.Tests.{le-leb, lt-leb}
 use Rattle.sets.specs.Below.{all_below, some_below}
-use Rattle.sets.specs.Sets.{has, added, inside, meets, joined, union}
-use Rattle.sets.proofs.Below.{by_bool, same_truth, lt-or-le, both, left, right, either, all-at, all_of, some_at, some_of}
-use Rattle.sets.proofs.Sets.{empty-has, has-bound, added-same, added-other, inside-at, inside_of, meets_at, meets-of, has-collect, has-union, union-none, union-next}
+use Rattle.sets.specs.Sets.{has, added, inside, meets, union}
+use Rattle.sets.proofs.Below.{by_bool, same_truth, lt-or-le, both, left, right, all-at, all_of, some_at, some_of, all_same, some_same, all-not, some-and, some-swap, all-swap}
+use Rattle.sets.proofs.Sets.{empty-has, added-same, added-past, added-other, inside-at, inside_of, joined-none, has-collect, has-union}
 use Rattle.model.specs.Numbers.{FILESYSTEM, CREATE}
 use Rattle.model.specs.Words.{◌!◌}
 use Rattle.model.specs.Layout.{rights_addr}
 use Rattle.model.specs.Records.{role_at, has_right}
 use Rattle.model.specs.Claims.{S, T, plain_in, to_some, some_role_to, creates_inside}
-use Rattle.claimsets.specs.Family.{EVERY-ROLE, rights_to, reach, birth, bears, born, row_from, row_of, closed}
+use Rattle.tables.proofs.Laws.{part_at, past_end}
+use Rattle.claimsets.specs.Family.{EVERY-ROLE, rights_to, reach, birth, born, row_of, closed}
 
--- ---- a row of 32 words
+-- ---- a row of rights
 
-from_at : (f : ℕ → ℕ) (k n i : ℕ) → i < n → row_from k n f ! i ≡ f (k + i)
-from_at f k zero i l = absurd (not-suc-le-zero l)
-from_at f k (suc n) zero l = rw add-zero
-from_at f k (suc n) (suc i) l = from_at f (suc k) n i (le_of_suc-le-suc l) ∙ ap f (omega arith)
+module _ (t : List ℕ) (g r : ℕ) where
+  -- as much as the tables have of it
+  pub rights_part : (part : List ℕ) (a : ℕ) → a ≡ rights_addr g r 0 → part ≡ take (length t - a) (drop a t) → (k : ℕ) → part ! k ≡ t ! rights_addr g r k
+  rights_part part a e p k = let q : a + k ≡ rights_addr g r k = omega arith in rw (p, part_at t a k, q)
 
-from-length : (f : ℕ → ℕ) (k n : ℕ) → length (row_from k n f) ≡ n
-from-length f k zero = refl
-from-length f k (suc n) = ap suc (from-length f (suc k) n)
+  pub rights_none : (a : ℕ) → a ≡ rights_addr g r 0 → length t < a → (k : ℕ) → t ! rights_addr g r k ≡ 0
+  rights_none a e l k = past_end t (rights_addr g r k) (omega arith)
 
-module _ (f : ℕ → ℕ) where
-  pub row_at : (i : ℕ) → i < 32 → row_of f ! i ≡ f i
-  unfolding row_of
-  row_at i l = from_at f 0 32 i l ∙ ap f (omega arith)
-
-  pub row-length : length (row_of f) ≡ 32
-  unfolding row_of
-  row-length = from-length f 0 32
-
-  -- a list with these words is the row
-  pub is_row : (l : List ℕ) → length l ≡ 32 → ((i : ℕ) → i < 32 → l ! i ≡ f i) → l ≡ row_of f
-  is_row l e h = ext_get_or 0 l (row_of f) (e ∙ sym row-length) (λ i m. h i (omega arith) ∙ sym (row_at i (omega arith)))
-
-pub row_same : (f g : ℕ → ℕ) → ((i : ℕ) → i < 32 → f i ≡ g i) → row_of f ≡ row_of g
-row_same f g h = is_row g (row_of f) (row-length f) (λ i l. row_at f i l ∙ h i l)
-
--- ---- a row to each word of which the members of a set below r have added theirs
-
-module _ (s : ℕ) (f : ℕ → ℕ → ℕ) where
-  pub none-added : row_of (λ k. 0) ≡ row_of (λ k. union 0 s (f k))
-  none-added = row_same (λ k. 0) (λ k. union 0 s (f k)) (λ k l. sym (union-none s (f k)))
-
-  pub one-added : (r : ℕ) → has s r ≡ true → row_of (λ k. joined (row_of (λ k. union r s (f k)) ! k) (f k r)) ≡ row_of (λ k. union (r + 1) s (f k))
-  one-added r e = row_same _ _ (λ k l. rw (row_at (λ k. union r s (f k)) k l, union-next, e))
-
-  pub none_more : (r : ℕ) → has s r ≡ false → row_of (λ k. union r s (f k)) ≡ row_of (λ k. union (r + 1) s (f k))
-  none_more r e = row_same _ _ (λ k l. rw (union-next, e))
+-- past the end there are no rights, and an empty set adds nothing
+pub ruleset rows = (past_end, joined-none)
 
 -- ---- the types that a set of roles reaches
+
+turned : (a b c : Bool) → (a && (b && c)) ≡ (b && (a && c))
+turned true b c = refl
+turned false true c = refl
+turned false false c = refl
 
 module _ (t : List ℕ) (g a : ℕ) (m : a < 32) where
   has-reach : (s k : ℕ) → k < 32 → has (reach t s g a) k ≡ some_below 32 (λ r. has s r && has_right t g r k a)
@@ -71,100 +45,90 @@ module _ (t : List ℕ) (g a : ℕ) (m : a < 32) where
 
   -- a role in S has the right to a type in u: u and what S reaches have a type in common
   pub reach-meets : (w : List ℕ) (u : ℕ) → some_role_to t w g u a ≡ meets u (reach t (S w) g a)
-  unfolding some_role_to to_some
+  unfolding some_role_to to_some meets
   reach-meets w u =
-      same_truth (some_role_to t w g u a) (meets u (reach t (S w) g a))
-      (λ e.
-      let r = some_at (λ r. has (S w) r && to_some t g r u a) 32 e in
-      let k = some_at (λ k. has u k && has_right t g r.0 k a) 32 (right (has (S w) r.0) (to_some t g r.0 u a) r.2) in
-      meets-of u (reach t (S w) g a) k.0 (left (has u k.0) (has_right t g r.0 k.0 a) k.2)
-      (has-reach (S w) k.0 k.1
-      ∙ some_of (λ r. has (S w) r && has_right t g r k.0 a) 32 r.0 r.1
-      (both (has (S w) r.0) (has_right t g r.0 k.0 a) (left (has (S w) r.0) (to_some t g r.0 u a) r.2)
-      (right (has u k.0) (has_right t g r.0 k.0 a) k.2))))
-      (λ e.
-      let k = meets_at u (reach t (S w) g a) e in
-      let l = has-bound u k.0 k.1 in
-      let r = some_at (λ r. has (S w) r && has_right t g r k.0 a) 32 (sym (has-reach (S w) k.0 l) ∙ k.2) in
-      some_of (λ r. has (S w) r && to_some t g r u a) 32 r.0 r.1
-      (both (has (S w) r.0) (to_some t g r.0 u a) (left (has (S w) r.0) (has_right t g r.0 k.0 a) r.2)
-      (some_of (λ k. has u k && has_right t g r.0 k a) 32 k.0 l
-      (both (has u k.0) (has_right t g r.0 k.0 a) k.1 (right (has (S w) r.0) (has_right t g r.0 k.0 a) r.2)))))
+      some_same _ _ 32 (λ r l. sym (some-and (has (S w) r) (λ k. has u k && has_right t g r k a) 32))
+      ∙ some-swap (λ r k. has (S w) r && (has u k && has_right t g r k a)) 32 32
+      ∙ some_same _ _ 32
+      (λ k l.
+      some_same _ _ 32 (λ r n. turned (has (S w) r) (has u k) (has_right t g r k a))
+      ∙ some-and (has u k) (λ r. has (S w) r && has_right t g r k a) 32
+      ∙ rw (has-reach (S w) k l))
 
 -- ---- what all roles create
+
+inside-union : (s u n : ℕ) (f : ℕ → ℕ) → inside (union n s f) u ≡ all_below n (λ i. not (has s i) || inside (f i) u)
+inside-union s u n f =
+    same_truth (inside (union n s f) u) (all_below n (λ i. not (has s i) || inside (f i) u))
+    (λ e.
+    all_of (λ i. not (has s i) || inside (f i) u) n
+    (λ i l.
+    by_bool (λ b. (not b || inside (f i) u) ≡ true) (has s i)
+    (λ h.
+    inside_of (f i) u
+    (λ v m x. inside-at (union n s f) u e v (has-union s f n v m ∙ some_of (λ i. has s i && has (f i) v) n i l (both (has s i) (has (f i) v) h x))))
+    (λ h. refl)))
+    (λ e.
+    inside_of (union n s f) u
+    (λ v m x.
+    let i = some_at (λ i. has s i && has (f i) v) n (sym (has-union s f n v m) ∙ x) in
+    let all = all-at (λ i. not (has s i) || inside (f i) u) n e i.0 i.1 in
+    inside-at (f i.0) u (rw (left (has s i.0) (has (f i.0) v) i.2) at all) v (right (has s i.0) (has (f i.0) v) i.2)))
+
+inside-none : (u : ℕ) → inside 0 u ≡ true
+inside-none u = inside_of 0 u (λ v m x. let z : true ≡ false = sym x ∙ empty-has v in cc)
+
+-- a set of one: a plain value is in u
+inside-one : (u v : ℕ) → inside (added 0 v) u ≡ plain_in u v
+inside-one u v =
+    ⊎_elim
+    (λ l.
+    rw (lt-leb 32 v l)
+    (same_truth (inside (added 0 v) u) (has u v) (λ e. inside-at (added 0 v) u e v (added-same 0 v l))
+    (λ e.
+    inside_of (added 0 v) u
+    (λ i m x. ⊎_elim (λ q. rw q.1 e) (λ q. let z : true ≡ false = sym x ∙ added-other 0 v i q.1 ∙ empty-has i in cc) (eqb_tells i v)))))
+    (λ l. rw (le-leb 32 v l, added-past 0 v l, inside-none)) (lt-or-le v 32)
 
 every : (r : ℕ) → r < 32 → has EVERY-ROLE r ≡ true
 unfolding all_below has
 every = all-at (has EVERY-ROLE) 32 refl
 
-module _ (t : List ℕ) where
-  has-bears : (k r v : ℕ) → v < 32 → has (bears t k r) v ≡ (has_right t FILESYSTEM r k CREATE && eqb (role_at t r).filecreate v)
-  unfolding birth
-  has-bears k r v l =
-      by_bool (λ b. has (cond b (added 0 (role_at t r).filecreate) 0) v ≡ (b && eqb (role_at t r).filecreate v)) (has_right t FILESYSTEM r k CREATE)
-      (λ e.
-      by_bool (λ b. has (added 0 (role_at t r).filecreate) v ≡ b) (eqb (role_at t r).filecreate v)
-      (λ f. let q : (role_at t r).filecreate ≡ v = eqb-true _ _ f in rw q (added-same 0 v l))
-      (λ f. added-other 0 (role_at t r).filecreate v (λ q. eqb-false _ _ f (sym q)) ∙ empty-has v))
-      (λ e. empty-has v)
+not-some-or : (p : ℕ → Bool) (b : Bool) (n : ℕ) → (not (some_below n p) || b) ≡ all_below n (λ k. not (p k) || b)
+not-some-or p true n = rw or-true (sym (all_of (λ k. not (p k) || true) n (λ k l. or-true (not (p k)))))
+not-some-or p false n = rw or-false (sym (all-not p n) ∙ all_same _ _ n (λ k l. sym (or-false (not (p k)))))
 
-  has-born : (k v : ℕ) → v < 32 → (r : ℕ) → r < 32 → has_right t FILESYSTEM r k CREATE ≡ true → (role_at t r).filecreate ≡ v → has (born t EVERY-ROLE k) v ≡ true
-  unfolding born
-  has-born k v l r m h e =
-      has-union EVERY-ROLE (bears t k) 32 v l
-      ∙ some_of (λ r. has EVERY-ROLE r && has (bears t k r) v) 32 r m
-      (both (has EVERY-ROLE r) (has (bears t k r) v) (every r m)
-      (has-bears k r v l ∙ both (has_right t FILESYSTEM r k CREATE) (eqb (role_at t r).filecreate v) h (eq-eqb _ _ e)))
+all-or : (b : Bool) (p : ℕ → Bool) (n : ℕ) → all_below n (λ i. b || p i) ≡ (b || all_below n p)
+all-or true p n = all_of (λ i. true) n (λ k l. refl)
+all-or false p n = refl
 
-  born-by : (k v : ℕ) → v < 32 → has (born t EVERY-ROLE k) v ≡ true → (r : ℕ) × (r < 32) × (has_right t FILESYSTEM r k CREATE ≡ true) × ((role_at t r).filecreate ≡ v)
-  unfolding born
-  born-by k v l e =
-      let r = some_at (λ r. has EVERY-ROLE r && has (bears t k r) v) 32 (sym (has-union EVERY-ROLE (bears t k) 32 v l) ∙ e) in
-      let h = sym (has-bears k r.0 v l) ∙ right (has EVERY-ROLE r.0) (has (bears t k r.0) v) r.2 in (
-        r.0,
-        r.1,
-        left (has_right t FILESYSTEM r.0 k CREATE) (eqb (role_at t r.0).filecreate v) h,
-        eqb-true _ _ (right (has_right t FILESYSTEM r.0 k CREATE) (eqb (role_at t r.0).filecreate v) h),
-      )
+not-and-or : (a b c : Bool) → (not (a && b) || c) ≡ (not a || (not b || c))
+not-and-or true b c = refl
+not-and-or false b c = refl
 
-  -- C6 for a DIR: what all roles create below the types in T(o) is in T(o)
-  pub births-closed : (w : List ℕ) (o : ℕ) → creates_inside t w o ≡ closed (row_of (born t EVERY-ROLE)) (T w o)
-  unfolding creates_inside closed to_some
-  births-closed w o = same_truth (creates_inside t w o) (closed (row_of (born t EVERY-ROLE)) (T w o)) to from
-    where
-      u : ℕ
-      u = T w o
+module _ (t : List ℕ) (u : ℕ) where
+  -- role r creates below type k; what it creates is in u
+  abbrev can : ℕ → ℕ → Bool
+  can r k = has_right t FILESYSTEM r k CREATE
 
-      row : List ℕ
-      row = row_of (born t EVERY-ROLE)
+  abbrev makes : ℕ → Bool
+  makes r = plain_in u (role_at t r).filecreate
 
-      to : creates_inside t w o ≡ true → inside (union 32 u (λ k. row ! k)) u ≡ true
-      to e =
-          inside_of (union 32 u (λ k. row ! k)) u
-          (λ v l h.
-          let k = some_at (λ k. has u k && has (row ! k) v) 32 (sym (has-union u (λ k. row ! k) 32 v l) ∙ h) in
-          let b : has (row ! k.0) v ≡ true = right (has u k.0) (has (row ! k.0) v) k.2 in
-          let r = born-by k.0 v l (rw (row_at (born t EVERY-ROLE) k.0 k.1) at b) in
-          let some : to_some t FILESYSTEM r.0 u CREATE ≡ true = some_of (λ k. has u k && has_right t FILESYSTEM r.0 k CREATE) 32 k.0 k.1
-          (both (has u k.0) (has_right t FILESYSTEM r.0 k.0 CREATE) (left (has u k.0) (has (row ! k.0) v) k.2) r.2) in
-          let all = all-at (λ r. not (to_some t FILESYSTEM r u CREATE) || plain_in u (role_at t r).filecreate) 32 e r.0 r.1 in
-          rw (some, r.3, lt-leb 32 v l) at all)
+  inside-born : (k : ℕ) → k < 32 → all_below 32 (λ r. not (can r k) || makes r) ≡ inside (row_of (born t EVERY-ROLE) ! k) u
+  unfolding row_of born birth has_right
+  inside-born k l =
+      rw (get_or-map-range_with_len (born t EVERY-ROLE) 0 32 k k 0 l (omega arith), inside-union)
+      (all_same _ _ 32 (λ r m. rw (every r m)
+      (by_bool (λ b. (not b || makes r) ≡ inside (cond b (added 0 (role_at t r).filecreate) 0) u) (can r k) (λ e. sym (inside-one u (role_at t r).filecreate)) (λ e. sym (inside-none u)))))
 
-      from : inside (union 32 u (λ k. row ! k)) u ≡ true → creates_inside t w o ≡ true
-      from e =
-          all_of (λ r. not (to_some t FILESYSTEM r u CREATE) || plain_in u (role_at t r).filecreate) 32
-          (λ r m.
-          by_bool (λ b. (not b || plain_in u (role_at t r).filecreate) ≡ true) (to_some t FILESYSTEM r u CREATE)
-          (λ h.
-          let k = some_at (λ k. has u k && has_right t FILESYSTEM r k CREATE) 32 h in
-          ⊎_elim
-          (λ l.
-          let b : has (row ! k.0) (role_at t r).filecreate ≡ true = rw (row_at (born t EVERY-ROLE) k.0 k.1)
-          (has-born k.0 (role_at t r).filecreate l r m (right (has u k.0) (has_right t FILESYSTEM r k.0 CREATE) k.2) refl) in
-          let p : has (union 32 u (λ k. row ! k)) (role_at t r).filecreate ≡ true =
-          has-union u (λ k. row ! k) 32 (role_at t r).filecreate l
-          ∙ some_of (λ k. has u k && has (row ! k) (role_at t r).filecreate) 32 k.0 k.1
-          (both (has u k.0) (has (row ! k.0) (role_at t r).filecreate) (left (has u k.0) (has_right t FILESYSTEM r k.0 CREATE) k.2) b) in
-          either (leb 32 (role_at t r).filecreate) (has u (role_at t r).filecreate) (inside-at (union 32 u (λ k. row ! k)) u e (role_at t r).filecreate p))
-          (λ l. rw (le-leb 32 (role_at t r).filecreate l)) (lt-or-le (role_at t r).filecreate 32))
-          (λ h. refl))
+  -- C6 for a DIR with the types u: what all roles create below them is in u
+  creates-closed : all_below 32 (λ r. not (to_some t FILESYSTEM r u CREATE) || makes r) ≡ closed (row_of (born t EVERY-ROLE)) u
+  unfolding closed to_some
+  creates-closed =
+      all_same _ _ 32 (λ r l. not-some-or (λ k. has u k && can r k) (makes r) 32 ∙ all_same _ _ 32 (λ k m. not-and-or (has u k) (can r k) (makes r)))
+      ∙ all-swap (λ r k. not (has u k) || (not (can r k) || makes r)) 32 32
+      ∙ all_same _ _ 32 (λ k l. all-or (not (has u k)) (λ r. not (can r k) || makes r) 32 ∙ rw (inside-born k l))
+
+pub births-closed : (t w : List ℕ) (o : ℕ) → creates_inside t w o ≡ closed (row_of (born t EVERY-ROLE)) (T w o)
+unfolding creates_inside
+births-closed t w o = creates-closed t (T w o)

@@ -41,7 +41,7 @@ pub extern "C" fn rc_call(
 pub extern "C" fn rc_fresh(tables: &mut [u32]) -> Answer
     ensures { outcome result tables.new ≡ build_fresh tables.old }
 {
-    build_fresh(tables)
+    Answer::from(build_fresh(tables))
 }
 
 // Whether the tables are well formed.
@@ -57,7 +57,7 @@ pub extern "C" fn rc_well_formed(tables: &[u32]) -> bool
 pub extern "C" fn rc_effective_type(tables: &[u32], file: u32) -> Found
     ensures { result ≡ query_type tables.now file }
 {
-    query_type(tables, file)
+    Found::from(query_type(tables, file))
 }
 
 // Its effective initial value (rule 17).
@@ -65,7 +65,7 @@ pub extern "C" fn rc_effective_type(tables: &[u32], file: u32) -> Found
 pub extern "C" fn rc_effective_initial(tables: &[u32], file: u32) -> Found
     ensures { result ≡ query_initial tables.now file }
 {
-    query_initial(tables, file)
+    Found::from(query_initial(tables, file))
 }
 
 // Its effective forced value (rule 19).
@@ -73,7 +73,7 @@ pub extern "C" fn rc_effective_initial(tables: &[u32], file: u32) -> Found
 pub extern "C" fn rc_effective_forced(tables: &[u32], file: u32) -> Found
     ensures { result ≡ query_forced tables.now file }
 {
-    query_forced(tables, file)
+    Found::from(query_forced(tables, file))
 }
 
 // Whether it is a FILE or a DIR.
@@ -81,7 +81,7 @@ pub extern "C" fn rc_effective_forced(tables: &[u32], file: u32) -> Found
 pub extern "C" fn rc_file_kind(tables: &[u32], file: u32) -> Found
     ensures { result ≡ query_kind tables.now file }
 {
-    query_kind(tables, file)
+    Found::from(query_kind(tables, file))
 }
 
 // The verdict on a claim, by rules C1 to C9.
@@ -89,7 +89,7 @@ pub extern "C" fn rc_file_kind(tables: &[u32], file: u32) -> Found
 pub extern "C" fn rc_check_claim(tables: &[u32], claim: &[u32]) -> Verdict
     ensures { result ≡ check_of tables.now claim.now }
 {
-    check(tables, claim)
+    Verdict::from(check(tables, claim))
 }
 
 // An amount entered into a setpoint list (W-202); only the entries change.
@@ -114,7 +114,7 @@ pub extern "C" fn rc_setpoint(
         metres,
         kilopascals,
     };
-    enter(tables, s, entries)
+    Answer::from(enter(tables, s, entries))
 }
 
 // A night's calls at once (W-205): items of sixteen bytes, and two bytes of answer for each.
@@ -122,5 +122,5 @@ pub extern "C" fn rc_setpoint(
 pub extern "C" fn rc_batch(tables: &mut [u32], calls: &[u8], answers: &mut [u8]) -> Answer
     ensures { batched result tables.new answers.new ≡ batch_of tables.old calls.now answers.old }
 {
-    batch(tables, calls, answers)
+    Answer::from(batch(tables, calls, answers))
 }

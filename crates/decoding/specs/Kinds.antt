@@ -2,12 +2,11 @@
 -- Whatever else is written, a kind that is not among these or a number that is not taken and not 0, is unknown. Kinds 14 and 15 were calls until W-207,
 -- and will not be given to others.
 -- Assumes nothing.
-use Rattle.std.specs.Prelude.{ℕ, Bool, cond, ◌||◌, List, ltb, eqb}
+use Rattle.std.specs.Prelude.{ℕ, Bool, cond, ◌||◌, List, ltb, eqb, Option, Some, None}
 use Rattle.sets.specs.Below.{all_below}
 use Rattle.model.specs.declared.Call.{Call}
 use Rattle.model.specs.declared.Change.{Change}
 use Rattle.model.specs.Words.{◌!◌}
-use Rattle.decoding.specs.declared.Decoded.{Decoded}
 
 abbrev pub CALL-ACCESS : ℕ
 CALL-ACCESS = 1
@@ -74,15 +73,15 @@ abbrev pub NUMBERS : ℕ
 NUMBERS = 5
 
 -- the call, where all numbers but the first `count` are 0
-unfoldable pub takes : ℕ → List ℕ → Call → Decoded
-takes count n call = cond (all_below NUMBERS (λ i. ltb i count || eqb (n ! i) 0)) (Decoded.Known call) Decoded.Unknown
+unfoldable pub takes : ℕ → List ℕ → Call → Option Call
+takes count n call = cond (all_below NUMBERS (λ i. ltb i count || eqb (n ! i) 0)) (Some call) None
 
 infixr 20 ◌⇒◌∣◌
 -- the first where the test holds, or else the rest
-abbrev pub ◌⇒◌∣◌ : Bool → Decoded → Decoded → Decoded
+abbrev pub ◌⇒◌∣◌ : Bool → Option Call → Option Call → Option Call
 ok ⇒ x ∣ rest = cond ok x rest
 
-unfoldable pub decode_of : ℕ → List ℕ → Decoded
+unfoldable pub decode_of : ℕ → List ℕ → Option Call
 decode_of kind n =
     eqb kind CALL-ACCESS ⇒ takes 3 n (Call.Access (n ! 0) (n ! 1) (n ! 2)) ∣
     eqb kind CALL-CLONE ⇒ takes 0 n Call.Clone ∣
@@ -104,4 +103,4 @@ decode_of kind n =
     eqb kind CALL-ADD-RIGHT ⇒ takes 4 n (Call.Administer (Change.AddRight (n ! 0) (n ! 1) (n ! 2) (n ! 3))) ∣
     eqb kind CALL-REMOVE-RIGHT ⇒ takes 4 n (Call.Administer (Change.RemoveRight (n ! 0) (n ! 1) (n ! 2) (n ! 3))) ∣
     eqb kind CALL-SET-PROGRAM-ROLES ⇒ takes 3 n (Call.Administer (Change.SetProgramRoles (n ! 0) (n ! 1) (n ! 2))) ∣
-    Decoded.Unknown
+    None

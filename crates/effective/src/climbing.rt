@@ -8,8 +8,9 @@ use model::layout::PARENT;
 use model::numbers::INHERIT_PARENT;
 use tables::records::file_word;
 
-// Word `slot` of file o, which has `depth` parents. It calls itself on the parent; on the way back each call counts one parent more, and hands
-// the value and the place where the climb ended down as they are.
+// Word `slot` of file o, which has `depth` parents. It calls itself on the parent, as the definition does; on the way back each call counts one
+// parent more, and hands the value and the place where the climb ended down as they are.
+#[tactic(auto, using(crate::proofs::Laws::climbs))]
 pub fn climb(t: &[u32], depth: u32, slot: u32, o: u32) -> Climbed
     ensures { result ≡ climb_of depth t.now slot o }
 {
@@ -31,8 +32,7 @@ pub fn climb(t: &[u32], depth: u32, slot: u32, o: u32) -> Climbed
     let parent = file_word(t, o, PARENT);
     let up = climb(t, depth - 1, slot, parent);
     Climbed {
-        value: up.value,
         climbed: up.climbed + 1,
-        place: up.place,
+        ..up
     }
 }

@@ -14,20 +14,20 @@ use tables::records::file_word;
 mod climbing;
 
 // What inherit parent reads as at the root.
+#[tactic(auto, unfolding(model::specs::Effective::root_value))]
 fn root_value(slot: u32) -> u32
     ensures { result ≡ root_value slot }
 {
-    if slot == FILE_TYPE {
-        ROOT_TYPE
-    } else if slot == INITIAL {
-        ROOT_INITIAL
-    } else {
-        ROOT_FORCED
+    match slot {
+        FILE_TYPE => ROOT_TYPE,
+        INITIAL => ROOT_INITIAL,
+        _ => ROOT_FORCED,
     }
 }
 
 // The effective value of word `slot` of file o, the parents climbed to it, and the place where the climb ended. A file has as many parents as
 // its depth says; the remainder keeps the climb short on any row.
+#[tactic(auto, unfolding(model::specs::Effective::effective))]
 pub fn effective(t: &[u32], slot: u32, o: u32) -> Climbed
     ensures { result ≡ effective_of t.now slot o }
 {

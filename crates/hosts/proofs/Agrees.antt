@@ -7,6 +7,7 @@ use mathlib.Core.Bool.{true}
 use mathlib.Core.List.{List}
 use Rattle.model.specs.declared.Call.{Call}
 use Rattle.model.specs.declared.Process.{Process}
+use Rattle.model.specs.Numbers.{PROCESSES}
 use Rattle.model.specs.Records.{process_at}
 use Rattle.model.specs.Transitions.{with_role}
 use Rattle.model.specs.Calls.{change_role_row}
@@ -17,19 +18,21 @@ use Rattle.model.proofs.Granted.{granted-by}
 use Rattle.model.proofs.Records.{process-put-policy}
 use Rattle.model.proofs.Formed.{facts, test}
 use Rattle.model.proofs.Kept.{step-act}
-use Rattle.hosts.specs.Records.{row_ok, holding, records_of, held, change_role_at, SameRoles}
-use Rattle.hosts.proofs.Held.{holding-formed, records-sized, record-there, records-ok}
-use Rattle.hosts.proofs.Laws.{step_is, outcome-is}
+use Rattle.hosts.specs.Records.{row_ok, holding, records_of, held, change_role_at, SameRoles, row_no}
+use Rattle.hosts.proofs.Held.{Holds, holds, records-sized, record-there, records-ok}
+use Rattle.hosts.proofs.Laws.{changed, stepped}
 
 -- tables that hold a row that may be lent are well formed
 pub holding-well-formed : (t : List ℕ) (row : List Process) → well_formed t ≡ true → row_ok row ≡ true → well_formed (holding t row) ≡ true
-holding-well-formed t row formed ok = test (holding t row) (holding-formed row ok t (facts t formed))
+holding-well-formed t row formed ok = test (holding t row) (holds t row ok (facts t formed)).formed
 
 -- t is what the host lends beside its records, u are the definition's tables
 pub change-agrees : (t u : List ℕ) (c role : ℕ) → well_formed t ≡ true → well_formed u ≡ true → SameRoles t u → change_role_at t (records_of u) c role ≡ held (step u c (Call.ChangeRole role))
+unfolding row_no
 change-agrees t u c role formed ok same =
     let w = facts u ok in
-    outcome-is t (records_of u) c role ∙ rw (formed, records-ok u w) (sym (step_is t (records_of u) c role u w same (records-sized u) (record-there u)))
+    let h : Holds t u (records_of u) PROCESSES = record { formed = w; there = record-there u; roles = same } in
+    changed t (records_of u) c role ∙ rw (formed, records-ok u w) (sym (stepped t (records_of u) c role u h (records-sized u)))
 
 pub roles-stay : (t u : List ℕ) (c role : ℕ) → well_formed u ≡ true → SameRoles t u → SameRoles t (step u c (Call.ChangeRole role)).after
 unfolding act ruling change_role_row

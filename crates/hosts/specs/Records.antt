@@ -88,8 +88,9 @@ SameRoles t u = (r : ℕ) → r < ROLES → role_at u r ≡ role_at t r
 abbrev pub patched : Process → ℕ → Process
 patched p role = record { live = p.live; owner = p.owner; role = role; rctype = p.rctype; forced = p.forced }
 
--- numbers 2, 3 and 5 of change role, asked of the caller's record
-unfoldable pub role_no : List ℕ → ℕ → Process → ℕ → ℕ
-role_no t c me role =
-    (2 unless (ltb c PROCESSES && ltb role ROLES) ▹ 3 unless me.live)
-    ▹ 5 unless has (role_at t me.role).compatible.bits role
+-- the number that decides: of the tables and the row, and then numbers 2, 3 and 5 of change role, asked of the caller's record
+unfoldable pub row_no : List ℕ → List Process → ℕ → ℕ → ℕ
+row_no t row c role =
+    1 unless (well_formed t && row_ok row)
+    ▹ (2 unless (ltb c PROCESSES && ltb role ROLES) ▹ 3 unless (record_at row c).live)
+    ▹ 5 unless has (role_at t (record_at row c).role).compatible.bits role

@@ -19,14 +19,11 @@ use Rattle.model.specs.Words.{◌!◌}
 use Rattle.model.specs.Effective.{root_value}
 use Rattle.model.specs.KeptValues.{own_or_parents, kept_anew, swept, sweeps, refreshed}
 
--- the third of the root's values
-pub root-forced : (k : ℕ) → k ≢ KEPT-TYPE → k ≢ KEPT-INITIAL → root_value (FILE-TYPE + k) ≡ ROOT-FORCED
-unfolding root_value
-root-forced k n m = rw (ne_eqb (FILE-TYPE + k) FILE-TYPE (λ e. n (omega arith)), ne_eqb (FILE-TYPE + k) INITIAL (λ e. m (omega arith)))
-
 pub same-anew : (t : List ℕ) (k o : ℕ) → t ! (kept_addr o + k) ≡ own_or_parents t k o → t ≡ kept_anew t k o
 unfolding kept_anew
 same-anew t k o e = rw (← e) (sym (set-get_or t (kept_addr o + k) 0))
+
+pub ruleset anew = (same-anew)
 
 module _ (low : ℕ) (t : List ℕ) (k : ℕ) where
   -- from place o on to the next

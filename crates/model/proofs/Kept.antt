@@ -21,7 +21,7 @@ use Rattle.model.specs.KeptValues.{revalued}
 use Rattle.model.specs.Transitions.{created}
 use Rattle.model.specs.Calls.{own_role, clone_no, clone_row, exit_no, exit_row, execute_no, execute_row, role_under, change_owner_row, change_role_row, create_no, create_row, delete_no, delete_row, create_ipc_no, create_ipc_row, delete_ipc_row}
 use Rattle.model.specs.Administration.{type_addr, change_set_row, set_user_role_row, set_program_roles_row, set_process_forced_row, set_default_type_row, set_role_admin_row, set_type_row, change_right_row, ruling_on}
-use Rattle.model.specs.Step.{act, step, ruling, number}
+use Rattle.model.specs.Step.{act, step, ruling}
 use Rattle.model.proofs.Decided.{decided, tested}
 use Rattle.model.proofs.Granted.{Caller, granted-by, clone-granted, execute-granted, create-granted, delete-granted, create-ipc-granted, modify-granted, kind-ranged}
 use Rattle.model.proofs.Records.{by-group, file-occupied, free-place}

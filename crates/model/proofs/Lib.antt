@@ -1,5 +1,6 @@
 pub mod Words
 pub mod Decided
+pub mod Ends
 pub mod Granted
 pub mod Records
 pub mod Formed

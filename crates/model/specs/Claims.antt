@@ -1,6 +1,6 @@
 -- Claims ("Claims"): what a claim says, when an object is startable and a value carried, rules C1 to C9, the first rule broken.
 -- Assumes nothing.
-use Rattle.std.specs.Prelude.{ℕ, zero, suc, ◌+◌, Bool, true, cond, not, ◌&&◌, ◌||◌, List, length, ltb, leb, eqb}
+use Rattle.std.specs.Prelude.{ℕ, zero, suc, ◌+◌, Bool, cond, not, ◌&&◌, ◌||◌, List, length, ltb, leb, eqb}
 use Rattle.sets.specs.Below.{all_below, some_below}
 use Rattle.sets.specs.Sets.{has, inside}
 use Rattle.model.specs.declared.Role.{Role}

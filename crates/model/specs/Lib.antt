@@ -8,6 +8,7 @@ pub mod KeptValues
 pub mod WellFormed
 pub mod Policy
 pub mod Outcome
+pub mod Refusals
 pub mod Fresh
 pub mod Queries
 pub mod Transitions

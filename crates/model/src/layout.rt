@@ -30,7 +30,7 @@ pub const IPC_TYPE: usize = 1;
 
 pub const IPC_WORDS: usize = 2;
 
-// The words of a file, as numbers that name which is asked for.
+// The words of a file, as numbers that name which is asked for: what is read of a file is defined for every number.
 pub const KIND: u32 = 0;
 
 pub const PARENT: u32 = 1;
@@ -86,3 +86,8 @@ pub const CLAIM_Q: usize = 3;
 pub const CLAIM_T: usize = 4;
 
 pub const CLAIM_LENGTH: usize = CLAIM_T + (FILES as usize);
+
+// What the numbers above come to: the words of a row, and those of a claim.
+const _: () = prove!(ROW_LENGTH == 6144);
+
+const _: () = prove!(CLAIM_LENGTH == 260);

@@ -1,4 +1,4 @@
-// The numbers that stand for things, as specs/Numbers.antt has them.
+// The numbers that stand for things. The definition has its own (specs/Numbers.antt), so that a wrong constant here is refused.
 
 // How many there are of each.
 pub const GROUPS: u32 = 3;

@@ -1,108 +1,78 @@
-// The checker's verdict on the claim, and who breaks a rule: found in the tables, for the rules that this story's careless changes break.
-use crate::tell::verdict;
+// Who breaks a rule of the claim: found in the tables, for the rules that this story's careless changes break.
 use crate::words::{File, FileType, Right, Role};
 use claimroles::plain_in;
-use claims::check;
 use claimsets::reach;
-use model::layout::{CLAIM_TYPE, KEPT_FORCED, KEPT_INITIAL};
-use model::numbers::{CREATE, DELETE, EXECUTE, FILES, FILESYSTEM, WRITE};
+use model::Rule;
+use model::layout::{KEPT_FORCED, KEPT_INITIAL};
+use model::numbers::{CREATE, DELETE, EXECUTE, FILES, FILESYSTEM, ROLES, WRITE};
 use sets::RoleSet;
 use std::io;
-use tables::claim::{roles_in, types_in};
+use tables::claim::Claim;
 use tables::records::{has_right, kept_at, role_at};
-use tables::words::word;
 
-// A right that changes what is protected, where a role has it.
-fn held(rt: &impl Print, t: &[u32], role: u32, rctype: u32, right: u32) -> io::Result<()> {
-    if has_right(t, FILESYSTEM, role, rctype, right) {
-        println!(rt;
-            "    {} has {} to {}",
-            Role(role),
-            Right(right),
-            FileType(rctype)
-        )?;
+// Rule 2 of a role, as far as this story goes: the lowest role that it assigns.
+fn assigns(rt: &impl Print, t: &[u32], role: u32) -> io::Result<()> {
+    let assign = role_at(t, role).assign;
+    if let Some(other) = (0..ROLES).find(|r| assign.has(*r)) {
+        println!(rt; "    {} assigns {}", Role(role), Role(other))?;
     }
     Ok(())
 }
 
-// Rule 2 of a role of the family, as far as this story goes: the lowest role that it assigns.
-fn assigns(rt: &impl Print, t: &[u32], w: &[u32], role: u32) -> io::Result<()> {
-    let assign = role_at(t, role).assign.bits;
-    if roles_in(w).has(role) & (assign != 0) {
-        println!(rt;
-            "    {} assigns {}",
-            Role(role),
-            Role(assign.trailing_zeros())
-        )?;
+// Rule 3 of a role, as far as this story goes: its rights that change what is protected.
+fn changes(rt: &impl Print, claim: Claim<'_>, role: u32) -> io::Result<()> {
+    let protected = claim.protected();
+    for right in [WRITE, CREATE, DELETE] {
+        if has_right(claim.tables, FILESYSTEM, role, protected, right) {
+            println!(rt;
+                "    {} has {} to {}",
+                Role(role),
+                Right(right),
+                FileType(protected)
+            )?;
+        }
     }
     Ok(())
 }
 
-// Rule 3 of a role of the family.
-fn changes(rt: &impl Print, t: &[u32], w: &[u32], role: u32) -> io::Result<()> {
-    let k = word(w, CLAIM_TYPE);
-    if roles_in(w).has(role) {
-        held(rt, t, role, k, WRITE)?;
-        held(rt, t, role, k, CREATE)?;
-        held(rt, t, role, k, DELETE)?;
+// Rule 4 of a role: the lowest role outside the family that it may turn into.
+fn turns(rt: &impl Print, t: &[u32], family: RoleSet, role: u32) -> io::Result<()> {
+    let compatible = role_at(t, role).compatible;
+    if let Some(other) = (0..ROLES).find(|r| compatible.has(*r) && !family.has(*r)) {
+        println!(rt; "    {} may turn into {}", Role(role), Role(other))?;
     }
     Ok(())
 }
 
-// Rule 4 of a role of the family: the lowest role outside that it may turn into.
-fn turns(rt: &impl Print, t: &[u32], w: &[u32], role: u32) -> io::Result<()> {
-    let family = roles_in(w);
-    let outside = role_at(t, role).compatible.bits & !family.bits;
-    if family.has(role) & (outside != 0) {
-        println!(rt;
-            "    {} may turn into {}",
-            Role(role),
-            Role(outside.trailing_zeros())
-        )?;
+// Rule 7: the roles from outside the family that programs bring in, of those that a role of the family can start.
+fn brings(rt: &impl Print, claim: Claim<'_>) -> io::Result<()> {
+    let t = claim.tables;
+    let family = claim.roles();
+    let startable = reach(t, family, FILESYSTEM, EXECUTE);
+    for file in (0..FILES).filter(|o| claim.types(*o).meets(startable)) {
+        for kept in [KEPT_INITIAL, KEPT_FORCED] {
+            let role = kept_at(t, kept, file);
+            if !plain_in(family, role) {
+                println!(rt; "    {} brings in {}", File(file), Role(role))?;
+            }
+        }
     }
     Ok(())
 }
 
-// A role that a program brings in, where it is outside the family.
-fn outsider(rt: &impl Print, family: RoleSet, program: u32, role: u32) -> io::Result<()> {
-    if !plain_in(family, role) {
-        println!(rt; "    {} brings in {}", File(program), Role(role))?;
+// All who break the rule: roles of the family, or the programs that they can start.
+pub(crate) fn blame(rt: &impl Print, claim: Claim<'_>, rule: Rule) -> io::Result<()> {
+    if rule == Rule::C7 {
+        return brings(rt, claim);
+    }
+    let family = claim.roles();
+    for role in (0..ROLES).filter(|r| family.has(*r)) {
+        match rule {
+            Rule::C2 => assigns(rt, claim.tables, role)?,
+            Rule::C3 => changes(rt, claim, role)?,
+            Rule::C4 => turns(rt, claim.tables, family, role)?,
+            _ => {}
+        }
     }
     Ok(())
-}
-
-// Rule 7 of a file: what it brings in, if a role of the family can start it.
-fn brings(rt: &impl Print, t: &[u32], w: &[u32], file: u32) -> io::Result<()> {
-    let family = roles_in(w);
-    if types_in(w, file).meets(reach(t, family, FILESYSTEM, EXECUTE)) {
-        outsider(rt, family, file, kept_at(t, KEPT_INITIAL, file))?;
-        outsider(rt, family, file, kept_at(t, KEPT_FORCED, file))?;
-    }
-    Ok(())
-}
-
-// Whether number n breaks the rule: a role, or for rule 7 a file.
-fn blame(rt: &impl Print, t: &[u32], w: &[u32], rule: u32, n: u32) -> io::Result<()> {
-    match rule {
-        2 => assigns(rt, t, w, n),
-        3 => changes(rt, t, w, n),
-        4 => turns(rt, t, w, n),
-        7 => brings(rt, t, w, n),
-        _ => Ok(()),
-    }
-}
-
-// All who break the rule; there are more files than roles, and no role of the family is above 31.
-fn blame_all(rt: &impl Print, t: &[u32], w: &[u32], rule: u32) -> io::Result<()> {
-    for n in 0..FILES {
-        blame(rt, t, w, rule, n)?;
-    }
-    Ok(())
-}
-
-// Asks the checker, and tells its verdict.
-pub(crate) fn ask_checker(rt: &impl Print, t: &[u32], w: &[u32]) -> io::Result<()> {
-    let v = check(t, w);
-    verdict(rt, "The checker is asked", v)?;
-    blame_all(rt, t, w, v.rule)
 }

@@ -5,42 +5,36 @@ use crate::names::{
     PLANNING_PROGRAMS, PLANNING_SCRIPT, PLANS, PROGRAMS, ROOT, SCHEDULER_PROGRAM, SCRIPTS,
     SERVICE_PROGRAMS,
 };
-use model::layout::{CLAIM_PROCESS, CLAIM_Q, CLAIM_S, CLAIM_T, CLAIM_TYPE};
+use model::layout::{CLAIM_LENGTH, CLAIM_PROCESS, CLAIM_Q, CLAIM_S, CLAIM_T, CLAIM_TYPE};
 use sets::RoleSet;
 use tables::words::set_word;
 
-// A set of one.
-fn put_only(w: &mut [u32], at: usize, member: u32) {
-    let none = RoleSet { bits: 0 };
-    set_word(w, at, none.add(member).bits);
+// The one type that each file has, whatever is done.
+const FILE_TYPES: [(u32, u32); 8] = [
+    (ROOT, BOX),
+    (PROGRAMS, SERVICE_PROGRAMS),
+    (PLANS, PLANNING_PROGRAMS),
+    (PLANNING_SCRIPT, PLANNING_PROGRAMS),
+    (SCHEDULER_PROGRAM, SERVICE_PROGRAMS),
+    (LISTS, BOX),
+    (METRES_LIST, METRES),
+    (KILOPASCALS_LIST, KILOPASCALS),
+];
+
+// The word of a set of one.
+fn only(member: u32) -> u32 {
+    RoleSet { bits: 0 }.add(member).bits
 }
 
-// The one type that a file has, whatever is done.
-fn stays(w: &mut [u32], file: u32, rctype: u32) {
-    put_only(w, CLAIM_T + (file as usize), rctype);
-}
-
-// The process, what is protected, and the roles and process types that the family stays in.
-fn family(w: &mut [u32]) {
-    set_word(w, CLAIM_PROCESS, PLANNER_PROCESS);
-    set_word(w, CLAIM_TYPE, KILOPASCALS);
-    put_only(w, CLAIM_S, PLANNER);
-    put_only(w, CLAIM_Q, SCRIPTS);
-}
-
-fn file_types(w: &mut [u32]) {
-    stays(w, ROOT, BOX);
-    stays(w, PROGRAMS, SERVICE_PROGRAMS);
-    stays(w, PLANS, PLANNING_PROGRAMS);
-    stays(w, PLANNING_SCRIPT, PLANNING_PROGRAMS);
-    stays(w, SCHEDULER_PROGRAM, SERVICE_PROGRAMS);
-    stays(w, LISTS, BOX);
-    stays(w, METRES_LIST, METRES);
-    stays(w, KILOPASCALS_LIST, KILOPASCALS);
-}
-
-// Writes the claim over a row of zeros.
-pub(crate) fn fill(w: &mut [u32]) {
-    family(w);
-    file_types(w);
+// The process, what is protected, and the roles and process types that the family stays in; then the files' types.
+pub(crate) fn planners_claim() -> [u32; CLAIM_LENGTH] {
+    let mut w = [0u32; CLAIM_LENGTH];
+    set_word(&mut w, CLAIM_PROCESS, PLANNER_PROCESS);
+    set_word(&mut w, CLAIM_TYPE, KILOPASCALS);
+    set_word(&mut w, CLAIM_S, only(PLANNER));
+    set_word(&mut w, CLAIM_Q, only(SCRIPTS));
+    for (file, rctype) in FILE_TYPES {
+        set_word(&mut w, CLAIM_T + (file as usize), only(rctype));
+    }
+    w
 }

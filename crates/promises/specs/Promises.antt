@@ -2,12 +2,16 @@
 -- What a function of the library answers is by its contract what `step`, `query`, `check`, `build_fresh` or `well_formed` says, so that what holds of
 -- the definition here holds of the box.
 -- Assumes nothing.
-use Rattle.std.specs.Prelude.{◌+◌, ◌<◌, ◌≤◌, suc, zero, ℕ, Bool, ◌||◌, false, true, List, [], ◌∷◌, ◌↔◌, ◌≢◌, ◌⊎◌, ◌≡◌, eqb, length}
+use Rattle.std.specs.Prelude.{◌+◌, ◌<◌, ◌≤◌, suc, zero, ℕ, Bool, ◌||◌, false, true, List, [], ◌∷◌, ◌↔◌, ◌≢◌, ◌⊎◌, ◌≡◌, Result, eqb, length}
 use Rattle.sets.specs.Sets.{has}
 use Rattle.sets.specs.declared.RoleSet.{RoleSet}
 use Rattle.model.specs.declared.Answer.{Answer}
 use Rattle.model.specs.declared.Call.{Call}
 use Rattle.model.specs.declared.Change.{Change}
+use Rattle.model.specs.declared.Climbed.{Climbed}
+use Rattle.model.specs.declared.Objection.{Objection}
+use Rattle.model.specs.declared.Refusal.{Refusal}
+use Rattle.model.specs.declared.Rule.{Rule}
 use Rattle.model.specs.Numbers.{DEEPEST, DIR, FILE, FILES, FILESYSTEM, INHERIT-PARENT, ROOT, UP-MIXED, USE-FORCED-ROLE, lower, places}
 use Rattle.model.specs.Layout.{FILE-TYPE, FORCED, INITIAL, KEPT-WORDS, KIND, PARENT, role_addr, row_length}
 use Rattle.model.specs.Words.{◌!◌}
@@ -15,6 +19,7 @@ use Rattle.model.specs.Records.{file_word, kept_at, occupied, free_place, has_ri
 use Rattle.model.specs.WellFormed.{well_formed}
 use Rattle.model.specs.Policy.{SamePolicy}
 use Rattle.model.specs.Outcome.{Outcome, outcome, granting, refusing}
+use Rattle.model.specs.Refusals.{code, first_broken, answer_of, found_of, verdict_of}
 use Rattle.model.specs.Fresh.{fresh, build_fresh}
 use Rattle.model.specs.Effective.{effective, root_value, value_at}
 use Rattle.model.specs.Queries.{look_kind, look_type, query, query_kind, query_type}
@@ -310,6 +315,20 @@ No-other-value-kept-moves =
 abbrev pub Answers-to-one-contract-coincide : Type 0
 Answers-to-one-contract-coincide =
     (r s : Answer) (u v : List ℕ) (d : Outcome) → outcome r u ≡ d → outcome s v ≡ d → (r ≡ s) × (u ≡ v)
+
+-- Two results whose answers in numbers, with the rows they leave, are each what one definition says are the same result and the same row.
+abbrev pub Results-to-one-contract-coincide : Type 0
+Results-to-one-contract-coincide =
+    (r s : Result ℕ Refusal) (u v : List ℕ) (d : Outcome) → outcome (answer_of r) u ≡ d → outcome (answer_of s) v ≡ d → (r ≡ s) × (u ≡ v)
+
+-- Two results that say the same in numbers are the same result: of a call, of a query, of a claim, of the tests before a call, of the rules of a claim.
+abbrev pub Results-of-the-same-numbers-are-the-same : Type 0
+Results-of-the-same-numbers-are-the-same =
+    ((r s : Result ℕ Refusal) → answer_of r ≡ answer_of s → r ≡ s)
+    × ((r s : Result Climbed Refusal) → found_of r ≡ found_of s → r ≡ s)
+    × ((r s : Result (Unit {0}) Objection) → verdict_of r ≡ verdict_of s → r ≡ s)
+    × ((r s : Result (Unit {0}) Refusal) → code r ≡ code s → r ≡ s)
+    × ((r s : Result (Unit {0}) Rule) → first_broken r ≡ first_broken s → r ≡ s)
 
 -- Two sets whose members are what one definition says are the same set.
 abbrev pub Sets-to-one-contract-coincide : Type 0

@@ -1,4 +1,4 @@
-// The rules on values alone: refusal numbers, what becomes of a record (rules 2 to 22), the ranges of values. No memory is lent here.
+// The rules on values alone: how tests refuse, what becomes of a record (rules 2 to 22), the ranges of values. No memory is lent here.
 #![tactic(auto)]
 
 pub mod ranges;

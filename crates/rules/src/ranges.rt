@@ -29,7 +29,8 @@ pub fn ok_initial(v: u32) -> bool
     v <= USE_FORCED_ROLE
 }
 
-// File forced: 0 to 32 and 34 to 36.
+// File forced: 0 to 32 and 34 to 36. This one and the next go by `|` and `&`: with `||` and a range the test of the tables costs 13,936 instructions,
+// and so 13,171.
 pub fn ok_forced(v: u32) -> bool
     ensures { result ≡ ok_forced v }
 {
@@ -47,12 +48,10 @@ pub fn ok_process_forced(v: u32) -> bool
 pub fn ok_default(which: u32, v: u32) -> bool
     ensures { result ≡ ok_default which v }
 {
-    if which == IPC_CREATE {
-        v < TYPES
-    } else if which == PROCESS_CHOWN {
-        ok_chown(v)
-    } else {
-        ok_type(v)
+    match which {
+        IPC_CREATE => v < TYPES,
+        PROCESS_CHOWN => ok_chown(v),
+        _ => ok_type(v),
     }
 }
 
@@ -71,11 +70,9 @@ pub fn ok_type_in(group: u32, v: u32) -> bool
 pub fn places(group: u32) -> u32
     ensures { result ≡ places_of group }
 {
-    if group == FILESYSTEM {
-        FILES
-    } else if group == PROCESS {
-        PROCESSES
-    } else {
-        IPCS
+    match group {
+        FILESYSTEM => FILES,
+        PROCESS => PROCESSES,
+        _ => IPCS,
     }
 }

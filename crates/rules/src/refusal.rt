@@ -1,47 +1,32 @@
-// How refusal numbers are put together ("Nine numbers"), and the two answers of a call.
+// How tests refuse, and how a rule of a claim is kept: each in one line before a `?`.
 ghost use Rattle.std.specs.Prelude.{◌≡◌};
-ghost use Rattle.model.specs.Numbers.{◌unless◌, ◌▹◌, lower as lower_of};
+ghost use Rattle.model.specs.Numbers.{◌unless◌, lower as lower_of};
+ghost use Rattle.model.specs.Refusals.{number_of, rule_number, code, first_broken};
 
-use model::Answer;
+use model::{Refusal, Rule};
 
-// The number where the test fails, 0 where it holds.
-pub fn unless(n: u32, ok: bool) -> u32
-    ensures { result ≡ n unless ok }
+// Refused where the test fails.
+pub fn refused_unless(refusal: Refusal, ok: bool) -> Result<(), Refusal>
+    ensures { code result ≡ number_of refusal unless ok }
 {
-    if ok { 0 } else { n }
+    if ok { Ok(()) } else { Err(refusal) }
 }
 
-// The first number, and the second where the first is 0.
-pub fn first(n: u32, m: u32) -> u32
-    ensures { result ≡ n ▹ m }
+// Broken where the test fails.
+pub fn keeps(rule: Rule, ok: bool) -> Result<(), Rule>
+    ensures { first_broken result ≡ rule_number rule unless ok }
 {
-    if n == 0 { m } else { n }
+    if ok { Ok(()) } else { Err(rule) }
 }
 
-// Of two numbers the lower, where 0 is none.
-pub fn lower(n: u32, m: u32) -> u32
-    ensures { result ≡ lower_of n m }
+// Of two results the lower refusal, where one refuses.
+#[tactic(auto, unfolding(model::specs::Numbers::lower))]
+pub fn lower_refusal(a: Result<(), Refusal>, b: Result<(), Refusal>) -> Result<(), Refusal>
+    ensures { code result ≡ lower_of (code a) (code b) }
 {
-    if (n == 0) | ((m != 0) & (m < n)) {
-        m
-    } else {
-        n
+    match (a, b) {
+        (Err(x), Err(y)) if y.number() < x.number() => b,
+        (Err(_), _) => a,
+        _ => b,
     }
-}
-
-// The answer of a refusal names no place.
-pub fn refusal(n: u32) -> Answer
-    ensures { result ≡ record { number = n; place = 0 } }
-{
-    Answer {
-        number: n,
-        place: 0,
-    }
-}
-
-// The answer of a grant has number 0.
-pub fn grant(place: u32) -> Answer
-    ensures { result ≡ record { number = 0; place = place } }
-{
-    Answer { number: 0, place }
 }

@@ -1,12 +1,12 @@
 // What becomes of a record, on records by value (rules 2 to 22).
 ghost use Rattle.std.specs.Prelude.{◌≡◌};
-ghost use Rattle.model.specs.Records.{free_process, free_file, free_ipc};
 ghost use Rattle.model.specs.Transitions.{default_or, chown_type, forced_role, initial_role, chown_role, cloned as cloned_of, executed as executed_of, chowned as chowned_of, with_role, created as created_of};
 
 use model::numbers::{INHERIT_PARENT, USE_NEW_ROLE_DEF_CREATE};
-use model::{File, Forced, Initial, Ipc, Kind, Process, Role};
+use model::{File, Forced, Initial, Kind, Process, Role};
 
 // Rules 8 and 10: the default type, or the present one where that is inherit parent.
+#[tactic(auto, unfolding(model::specs::Transitions::default_or))]
 pub fn default_or(default: u32, present: u32) -> u32
     ensures { result ≡ default_or default present }
 {
@@ -18,6 +18,7 @@ pub fn default_or(default: u32, present: u32) -> u32
 }
 
 // Rule 13, H2: use new role def create stands for the create type of the new role.
+#[tactic(auto, unfolding(model::specs::Transitions::chown_type))]
 pub fn chown_type(chown: u32, create: u32, present: u32) -> u32
     ensures { result ≡ chown_type chown create present }
 {
@@ -29,100 +30,97 @@ pub fn chown_type(chown: u32, create: u32, present: u32) -> u32
 }
 
 // Rule 20: the role that a forced value gives at execute.
-pub fn forced_role(f: Forced, ownerrole: u32, present: u32) -> u32
-    ensures { result ≡ forced_role f ownerrole present }
+pub fn forced_role(forced: Forced, owner_role: u32, present: u32) -> u32
+    ensures { result ≡ forced_role forced owner_role present }
 {
-    match f {
-        Forced::Plain(r) => r,
-        Forced::InheritParent => present,
-        Forced::InheritUser => ownerrole,
-        Forced::InheritProcess => present,
-        Forced::UpMixed => present,
+    match forced {
+        Forced::Plain(role) => role,
+        Forced::InheritUser => owner_role,
+        Forced::InheritParent | Forced::InheritProcess | Forced::UpMixed => present,
     }
 }
 
 // Rule 18: a plain initial role, or else what rule 20 gives.
-pub fn initial_role(i: Initial, byforced: u32) -> u32
-    ensures { result ≡ initial_role i byforced }
+pub fn initial_role(initial: Initial, by_forced: u32) -> u32
+    ensures { result ≡ initial_role initial by_forced }
 {
-    match i {
-        Initial::Plain(r) => r,
-        Initial::InheritParent => byforced,
-        Initial::UseForcedRole => byforced,
+    match initial {
+        Initial::Plain(role) => role,
+        Initial::InheritParent | Initial::UseForcedRole => by_forced,
     }
 }
 
 // Rule 22: the role that a process's forced value gives when its owner changes.
-pub fn chown_role(f: Forced, ownerrole: u32, present: u32) -> u32
-    ensures { result ≡ chown_role f ownerrole present }
+pub fn chown_role(forced: Forced, owner_role: u32, present: u32) -> u32
+    ensures { result ≡ chown_role forced owner_role present }
 {
-    match f {
-        Forced::Plain(r) => r,
-        Forced::InheritParent => ownerrole,
-        Forced::InheritUser => ownerrole,
+    match forced {
+        Forced::Plain(role) => role,
+        Forced::InheritParent | Forced::InheritUser | Forced::UpMixed => owner_role,
         Forced::InheritProcess => present,
-        Forced::UpMixed => ownerrole,
     }
 }
 
 // Rules 2 and 8, H1: the child of a clone.
+#[tactic(auto, unfolding(model::specs::Transitions::cloned))]
 pub fn cloned(own: Role, me: Process) -> Process
     ensures { result ≡ cloned_of own me }
 {
-    let forced = me.forced;
-    let rctype = default_or(own.processcreate, me.rctype);
     Process {
         live: true,
-        owner: me.owner,
-        role: me.role,
-        rctype,
-        forced,
+        rctype: default_or(own.processcreate, me.rctype),
+        ..me
     }
 }
 
 // Rules 10, 18, 20 and 21: the type goes by the role before, and the forced value is always copied.
-pub fn executed(own: Role, ownerrole: u32, initial: Initial, forced: Forced, me: Process) -> Process
-    ensures { result ≡ executed_of own ownerrole initial forced me }
+#[tactic(auto, unfolding(model::specs::Transitions::executed))]
+pub fn executed(
+    own: Role,
+    owner_role: u32,
+    initial: Initial,
+    forced: Forced,
+    me: Process,
+) -> Process
+    ensures { result ≡ executed_of own owner_role initial forced me }
 {
-    let byforced = forced_role(forced, ownerrole, me.role);
     Process {
         live: true,
-        owner: me.owner,
-        role: initial_role(initial, byforced),
+        role: initial_role(initial, forced_role(forced, owner_role, me.role)),
         rctype: default_or(own.execute, me.rctype),
         forced,
+        ..me
     }
 }
 
 // Rules 13 and 22: a new owner, the role that rule 22 gives, and by H2 that role's process create type.
-pub fn chowned(own: Role, user: u32, role: u32, create: u32, me: Process) -> Process
-    ensures { result ≡ chowned_of own user role create me }
+#[tactic(auto, unfolding(model::specs::Transitions::chowned))]
+pub fn chowned(own: Role, user: u32, after: u32, create: u32, me: Process) -> Process
+    ensures { result ≡ chowned_of own user after create me }
 {
-    let forced = me.forced;
     Process {
         live: true,
         owner: user,
-        role,
+        role: after,
         rctype: chown_type(own.chown, create, me.rctype),
-        forced,
+        ..me
     }
 }
 
 // Rule 15, H3: the role alone changes.
+#[tactic(auto, unfolding(model::specs::Transitions::with_role))]
 pub fn with_role(role: u32, me: Process) -> Process
     ensures { result ≡ with_role role me }
 {
-    let kept = me.forced;
     Process {
         live: true,
-        owner: me.owner,
         role,
-        rctype: me.rctype,
-        forced: kept,
+        ..me
     }
 }
 
 // Rule 6: a new file or directory; initial and forced inherit parent.
+#[tactic(auto, unfolding(model::specs::Transitions::created))]
 pub fn created(own: Role, kind: Kind, parent: u32, depth: u32) -> File
     ensures { result ≡ created_of own kind parent depth }
 {
@@ -133,42 +131,5 @@ pub fn created(own: Role, kind: Kind, parent: u32, depth: u32) -> File
         rctype: own.filecreate,
         initial: Initial::InheritParent,
         forced: Forced::InheritParent,
-    }
-}
-
-// A free place holds zeros only: a process's,
-pub fn free_process() -> Process
-    ensures { result ≡ free_process }
-{
-    Process {
-        live: false,
-        owner: 0,
-        role: 0,
-        rctype: 0,
-        forced: Forced::Plain(0),
-    }
-}
-
-// a file's,
-pub fn free_file() -> File
-    ensures { result ≡ free_file }
-{
-    File {
-        kind: Kind::Free,
-        parent: 0,
-        depth: 0,
-        rctype: 0,
-        initial: Initial::Plain(0),
-        forced: Forced::Plain(0),
-    }
-}
-
-// an IPC object's.
-pub fn free_ipc() -> Ipc
-    ensures { result ≡ free_ipc }
-{
-    Ipc {
-        live: false,
-        rctype: 0,
     }
 }

@@ -10,8 +10,9 @@ const PASCAL: u64 = 100000;
 const HALF: u64 = 50000;
 
 // Millimetres of head in whole pascals, to nearest, halves up.
+#[tactic(auto, unfolding(crate::specs::Pascals::pascals))]
 pub fn pascals(millimetres: u32) -> u64
     ensures { result ≡ pascals_of millimetres }
 {
-    ((millimetres as u64) * MILLIMETRE + HALF) / PASCAL
+    (u64::from(millimetres) * MILLIMETRE + HALF) / PASCAL
 }

@@ -2,20 +2,24 @@
 // monitor and knows of it only what it promises: the WRITE decision, and what the queries answer of the list.
 #![tactic(auto)]
 
-ghost use Rattle.std.specs.Prelude.{◌≡◌};
+ghost use Rattle.std.specs.Prelude.{◌≡◌, ◌&&◌, eqb};
+ghost use Rattle.model.specs.Numbers.{◌unless◌, ◌▹◌, FILE};
 ghost use Rattle.model.specs.Outcome.{outcome};
-ghost use Rattle.setpoints.specs.Setpoints.{by_unit, in_range, entry as entry_of, enter_no, enter as enter_of};
+ghost use Rattle.model.specs.Queries.{look_kind, look_type};
+ghost use Rattle.model.specs.Refusals.{code, answer_of};
+ghost use Rattle.setpoints.specs.Setpoints.{type_for, in_range, entry as entry_of, write_no, enter_no, enter as enter_of};
 
 use crate::head::pascals;
-use model::Answer;
+use model::Refusal;
 use model::numbers::{FILE, TYPES, WRITE};
 use monitor::reading::step_access_file;
 use queries::{look_kind, look_type};
-use rules::refusal::{first, grant, lower, refusal, unless};
+use rules::refusal::{lower_refusal, refused_unless};
 
 mod head;
 
-// The units, each with its own file type: metres of head come in millimetres, kilopascals in pascals.
+// The units, each with its own file type: metres of head come in millimetres, kilopascals in pascals. Numbers, since C passes any, and `enter`
+// answers for each.
 pub const METRES: u32 = 0;
 
 pub const KILOPASCALS: u32 = 1;
@@ -26,7 +30,7 @@ const UNITS: u32 = 2;
 pub const LIMIT: u32 = 2000000;
 
 // What a process asks to have entered: an amount in a unit, into a list; and the file types set aside for lists in metres and in kilopascals.
-#[derive(Clone, Copy)]
+#[derive(Clone, Copy, Debug, PartialEq, Eq)]
 pub struct Setpoint {
     pub process: u32,
     pub list: u32,
@@ -36,56 +40,76 @@ pub struct Setpoint {
     pub kilopascals: u32,
 }
 
-// Every number that the monitor does not look at is in its range, and there is a place for the entry.
-fn in_range(s: Setpoint, places: usize) -> bool
-    ensures { result ≡ in_range s places }
-{
-    (s.unit < UNITS)
-        & (s.amount <= LIMIT)
-        & (s.metres < TYPES)
-        & (s.kilopascals < TYPES)
-        & (0 < places)
-}
+impl Setpoint {
+    // Every number that the monitor does not look at is in its range, and there is a place for the entry.
+    #[tactic(auto, unfolding(crate::specs::Setpoints::in_range))]
+    fn in_range(self, places: usize) -> bool
+        ensures { result ≡ in_range self places }
+    {
+        self.unit < UNITS
+            && self.amount <= LIMIT
+            && self.metres < TYPES
+            && self.kilopascals < TYPES
+            && 0 < places
+    }
 
-// One of two types, by the unit that it is set aside for.
-fn by_unit(unit: u32, metres: u32, kilopascals: u32) -> u32
-    ensures { result ≡ by_unit unit metres kilopascals }
-{
-    if unit == METRES { metres } else { kilopascals }
-}
+    // The type that is set aside for lists in its unit.
+    fn list_type(self) -> u32
+        ensures { result ≡ type_for self }
+    {
+        match self.unit {
+            METRES => self.metres,
+            _ => self.kilopascals,
+        }
+    }
 
-// The entry that a grant makes, in pascals.
-fn entry(s: Setpoint) -> u64
-    ensures { result ≡ entry_of s }
-{
-    if s.unit == METRES {
-        pascals(s.amount)
-    } else {
-        s.amount as u64
+    // The entry that a grant makes, in pascals.
+    #[tactic(auto, unfolding(crate::specs::Setpoints::entry))]
+    fn entry(self) -> u64
+        ensures { result ≡ entry_of self }
+    {
+        match self.unit {
+            METRES => pascals(self.amount),
+            _ => u64::from(self.amount),
+        }
     }
 }
 
-// The number of a setpoint: the lower of its own tests' and the monitor's. The monitor's decision tests the tables, so that the list is then only
-// looked at.
-fn enter_no(t: &[u32], s: Setpoint, places: usize) -> u32
-    ensures { result ≡ enter_no t.now s places }
+// This library's own tests: the numbers are in their ranges, and the list is a FILE of its unit's type. The list is only looked at, since the
+// monitor's decision tests the tables.
+fn check_own(t: &[u32], s: Setpoint, places: usize) -> Result<(), Refusal>
+    ensures { code result ≡ 2 unless in_range s places ▹ 4 unless (eqb (look_kind t.now s.list) FILE && eqb (look_type t.now s.list) (type_for s)) }
 {
-    let write = step_access_file(t, s.process, s.list, WRITE);
-    let kind = look_kind(t, s.list);
-    let rctype = look_type(t, s.list);
-    let of_unit = (kind == FILE) & (rctype == by_unit(s.unit, s.metres, s.kilopascals));
-    let own = first(unless(2, in_range(s, places)), unless(4, of_unit));
-    lower(own, write.number)
+    refused_unless(Refusal::OutOfRange, s.in_range(places))?;
+    let of_unit = look_kind(t, s.list) == FILE && look_type(t, s.list) == s.list_type();
+    refused_unless(Refusal::NoSuchPlace, of_unit)
+}
+
+// The monitor's decision on WRITE to the list.
+#[tactic(auto, unfolding(crate::specs::Setpoints::write_no))]
+fn check_write(t: &[u32], s: Setpoint) -> Result<(), Refusal>
+    ensures { code result ≡ write_no t.now s }
+{
+    step_access_file(t, s.process, s.list, WRITE)?;
+    Ok(())
+}
+
+// The lower refusal, of this library's tests and of the monitor's decision. The monitor is asked first: the other way round a setpoint costs 12
+// instructions more.
+#[tactic(auto, using(crate::proofs::Number::number_looked))]
+fn check_entry(t: &[u32], s: Setpoint, places: usize) -> Result<(), Refusal>
+    ensures { code result ≡ enter_no t.now s places }
+{
+    let write = check_write(t, s);
+    lower_refusal(check_own(t, s, places), write)
 }
 
 // Enters a setpoint: a grant writes the first entry and nothing else, a refusal nothing.
-pub fn enter(t: &[u32], s: Setpoint, entries: &mut [u32]) -> Answer
-    ensures { outcome result entries.new ≡ enter_of t.now s entries.old }
+#[tactic(auto, using(model::proofs::Ends::ends, crate::proofs::Number::grants), unfolding(crate::specs::Setpoints::enter))]
+pub fn enter(t: &[u32], s: Setpoint, entries: &mut [u32]) -> Result<u32, Refusal>
+    ensures { outcome (answer_of result) entries.new ≡ enter_of t.now s entries.old }
 {
-    let number = enter_no(t, s, entries.len());
-    if number != 0 {
-        return refusal(number);
-    }
-    entries[0] = entry(s) as u32;
-    grant(0)
+    check_entry(t, s, entries.len())?;
+    entries[0] = s.entry() as u32;
+    Ok(0)
 }

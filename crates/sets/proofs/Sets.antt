@@ -1,5 +1,5 @@
 -- Laws of the sets. To add 2 ^ i where bit i is 0 turns bit i on and leaves each other bit: below i nothing is carried,
--- and above i the carry stops at bit i. To take 2 ^ i away where bit i is 1 is that read backwards.
+-- and above i the carry stops at bit i.
 -- A word is halved bit by bit, so two words with the same bits are equal. The machine's `&` and `|` act on each bit by itself,
 -- and its count of ones adds the bits up: so the words of sets say what their members say one by one.
 use Prim.Native.Nat.{ℕ, zero, suc, ◌+◌, ◌-◌, ◌*◌, ◌/◌, ◌%◌, ◌^◌, ◌≤◌, ◌<◌}
@@ -16,7 +16,7 @@ use lib.Bits.{bit_and, bit_or, and_shr, or_shr, and_mod, or_mod, and_lt, or_lt}
 use lib.Pow.{shr_lt, shl_exact, pow_pos, pow-add, shr-shr, shr_le, mod-pow-add}
 use Rattle.sets.specs.Sets.{has, added, removed, size_of, inside, meets, collect, joined, union}
 use Rattle.sets.specs.Below.{some_below, count_below}
-use Rattle.sets.proofs.Below.{by_bool, same_truth, lt-or-le, left, right, both, all-at, all_of, some_at, some_of, not_some, some_next, count-bound, count-more}
+use Rattle.sets.proofs.Below.{by_bool, same_truth, lt-or-le, left, right, both, all-at, all_of, some_at, some_of, not_some, some_next}
 
 -- ---- words: what adding 2 ^ i does to bit j
 
@@ -107,19 +107,6 @@ taken-le s i e =
     let l : 1 * 2 ^ i ≤ s = (le-div_iff_mul-le (pow_pos i)).0 (omega arith) in
     omega arith
 
-taken_back : (s i : ℕ) → has s i ≡ true → (s - 2 ^ i) + 2 ^ i ≡ s
-taken_back s i e = let l : 2 ^ i ≤ s = taken-le s i e in omega arith
-
-taken-same : (s i : ℕ) → has s i ≡ true → has (s - 2 ^ i) i ≡ false
-taken-same s i e =
-    let h : s / 2 ^ i % 2 ≡ 1 = has-bit s i e in
-    let b : s / 2 ^ i ≡ (s - 2 ^ i) / 2 ^ i + 1 = ap (λ (n : ℕ). n / 2 ^ i) (sym (taken_back s i e)) ∙ at-bit (s - 2 ^ i) i in
-    has_in (s - 2 ^ i) i (has-bound s i e) ∙ ne_eqb ((s - 2 ^ i) / 2 ^ i % 2) 1 (λ q. omega arith)
-
-taken-other : (s i j : ℕ) → has s i ≡ true → j ≢ i → has (s - 2 ^ i) j ≡ has s j
-taken-other s i j e n =
-    rw (← flip-other (s - 2 ^ i) i j (has-bound s i e) (taken-same s i e) n, taken_back s i e)
-
 module _ (s i : ℕ) where
   -- ---- with i and without i
 
@@ -149,41 +136,15 @@ module _ (s i : ℕ) where
       by_bool (λ b. P (added s i)) (has s i) (λ e. rw (added-there e) (there e))
       (λ e. ⊎_elim (λ l. rw (added_new l e) (new l e)) (λ l. rw (added-past l) (past l)) (lt-or-le i 32))
 
-  by-removed : (P : ℕ → Type 0) → (has s i ≡ true → P (s - 2 ^ i)) → (has s i ≡ false → P s) → P (removed s i)
-  by-removed P there absent =
-      by_bool (λ b. P (removed s i)) (has s i) (λ e. rw (removed-there e) (there e)) (λ e. rw (removed-absent e) (absent e))
-
   pub added-same : i < 32 → has (added s i) i ≡ true
   added-same h = by-added (λ u. has u i ≡ true) (λ e. e) (λ l. absurd (omega arith)) (flip-same s i)
 
   pub added-other : (j : ℕ) → j ≢ i → has (added s i) j ≡ has s j
   added-other j n = by-added (λ u. has u j ≡ has s j) (λ e. refl) (λ l. refl) (λ l e. flip-other s i j l e n)
 
-  pub removed-same : has (removed s i) i ≡ false
-  removed-same = by-removed (λ u. has u i ≡ false) (taken-same s i) (λ e. e)
-
-  pub removed-other : (j : ℕ) → j ≢ i → has (removed s i) j ≡ has s j
-  removed-other j n = by-removed (λ u. has u j ≡ has s j) (λ e. taken-other s i j e n) (λ e. refl)
-
   pub added-fits : s < 2 ^ 32 → added s i < 2 ^ 32
   added-fits h = by-added (λ u. u < 2 ^ 32) (λ e. h) (λ l. h) (λ l e. sum_fits s i h l e)
-
-  pub removed-fits : s < 2 ^ 32 → removed s i < 2 ^ 32
-  removed-fits h = by-removed (λ u. u < 2 ^ 32) (λ e. omega arith) (λ e. h)
-
   -- ---- how many
-
-  pub size-added : i < 32 → has s i ≡ false → size_of (added s i) ≡ size_of s + 1
-  unfolding size_of
-  size-added h e = count-more (has s) (has (added s i)) 32 i h e (added-same h) (λ k l n. sym (added-other k n))
-
-  pub size-removed : has s i ≡ true → size_of (removed s i) + 1 ≡ size_of s
-  unfolding size_of
-  size-removed e = sym (count-more (has (removed s i)) (has s) 32 i (has-bound s i e) removed-same e (λ k l n. removed-other k n))
-
-pub size-bound : (s : ℕ) → size_of s ≤ 32
-unfolding size_of
-size-bound s = count-bound (has s) 32
 
 -- a digit is 1 just where its place is a member
 ones-digit : (s n : ℕ) → n < 32 → ones (s / 2 ^ n % 2) ≡ cond (has s n) 1 0
@@ -216,12 +177,6 @@ unfolding inside
 inside_of s u h =
     all_of (λ i. not (has s i) || has u i) 32
     (λ i l. by_bool (λ b. (not b || has u i) ≡ true) (has s i) (h i l) (λ e. refl))
-
-pub inside-refl : (s : ℕ) → inside s s ≡ true
-inside-refl s = inside_of s s (λ i l e. e)
-
-pub inside-trans : (s u v : ℕ) → inside s u ≡ true → inside u v ≡ true → inside s v ≡ true
-inside-trans s u v a b = inside_of s v (λ i l e. inside-at u v b i (inside-at s u a i e))
 
 -- ---- the words of two sets taken together
 
@@ -332,14 +287,6 @@ module _ (p : ℕ → Bool) where
       ⊎_elim (λ e. rw e (collect-here n (omega arith))) (λ h. collect-there n k h ∙ has-collect n k h (omega arith))
       (eq-or-lt_of_le (le_of_suc-le-suc l))
 
-  -- as a loop extends it
-  pub collect-next : (n : ℕ) → n < 32 → collect (n + 1) p ≡ collect n p + cond (p n) (2 ^ n) 0
-  unfolding collect
-  collect-next n l =
-      rw add-one
-      (by_bool (λ b. cond b (added (collect n p) n) (collect n p) ≡ collect n p + cond b (2 ^ n) 0) (p n)
-      (λ e. added_new (collect n p) n l (has-collect-past n n (omega arith))) (λ e. omega arith))
-
 -- a word with the members of a test is the set that it collects
 pub is-collect : (s : ℕ) (p : ℕ → Bool) → s < 2 ^ 32 → ((i : ℕ) → i < 32 → has s i ≡ p i) → s ≡ collect 32 p
 is-collect s p h same =
@@ -398,3 +345,6 @@ module _ (s : ℕ) (f : ℕ → ℕ) where
       here v =
           by_bool (λ b. (has (union n s f) v || (b && has (f n) v)) ≡ has (cond b (joined (union n s f) (f n)) (union n s f)) v) (has s n)
           (λ e. sym (has-joined (union n s f) (f n) v)) (λ e. or-false (has (union n s f) v))
+
+-- what the machine does with the word of a set
+pub ruleset by_word = (one_shl, has-bound, sum_fits, taken-le, added_new, removed-there, removed-absent, size_word, meets_word, inside-word, joined_word)

@@ -1,20 +1,11 @@
--- Nothing is put past the end, and zeros are read there. The three tables of objects are searched alike: records of one length, one after the other,
--- whose first word is 0 where the place is free.
-use Prim.Native.Nat.{ℕ, suc, ◌+◌, ◌-◌, ◌*◌, ◌≤◌}
-use mathlib.Core.Path.{◌≡◌, refl, sym, ◌∙◌}
-use mathlib.Core.Bool.{Bool, true, false, not}
-use mathlib.Core.List.{List, [], ◌∷◌}
-use native.Mathlib.Nat.{zero-add}
-use native.Mathlib.Omega.{arith}
-use lib.Dec.{eqb}
-use lib.ListN.{length, take, drop, replicate, length-drop, length-replicate, get_or-replicate, get_or-eq_default}
+-- Nothing is put past the end, and zeros are read there.
+use Rattle.std.proofs.Common.{ℕ, suc, ◌+◌, ◌-◌, ◌≤◌, ◌<◌, ◌≡◌, refl, sym, ◌∙◌, ⊎_elim, List, [], ◌∷◌, ◌++◌, min, length, take, drop, replicate, arith}
+use Rattle.std.proofs.lemmas.List.{length-append, length-take, drop-replicate, get_or-take, get_or-append_right, get_or-replicate}
+use lib.ListN.{length-drop, length-replicate, get_or-append, get_or-eq_default}
 use lib.Seq.{set_out, take_all, get_or-drop}
-use Rattle.sets.specs.Below.{first_below}
-use Rattle.sets.proofs.Below.{first-same}
-use Rattle.model.specs.Numbers.{places}
+use Rattle.sets.proofs.Below.{lt-or-le}
 use Rattle.model.specs.Words.{◌!◌, block, put_from, put}
-use Rattle.model.specs.Records.{place_addr, occupied, free_place}
-use Rattle.model.proofs.Words.{block_at, block-length, is_block}
+use Rattle.model.proofs.Words.{is_block}
 
 from_out : (vs t : List ℕ) (a k : ℕ) → length t ≤ a → put_from t a k vs ≡ t
 from_out [] t a k h = refl
@@ -24,15 +15,7 @@ pub put-out : (t : List ℕ) (a : ℕ) (vs : List ℕ) → length t ≤ a → pu
 unfolding put
 put-out t a vs h = from_out vs t a 0 h
 
-not-not : (b : Bool) → b ≡ not (not b)
-not-not true = refl
-not-not false = refl
-
-pub free_in : (t : List ℕ) (g base stride count : ℕ) → places g ≡ count → ((p : ℕ) → place_addr g p ≡ base + p * stride)
-    → first_below count (λ p. eqb (t ! (base + p * stride)) 0) ≡ free_place t g
-unfolding free_place occupied
-free_in t g base stride count e a =
-    rw e (first-same _ _ count (λ p l. rw (a p) (not-not (eqb (t ! (base + p * stride)) 0))))
+pub ruleset puts = (put-out)
 
 -- ---- past the end, and from an address on
 
@@ -48,7 +31,18 @@ none-at t a n l =
 pub part_at : (t : List ℕ) (a i : ℕ) → take (length t - a) (drop a t) ! i ≡ t ! (a + i)
 part_at t a i = rw (take_all (length t - a) (drop a t) (rw length-drop (omega arith))) (get_or-drop a t i 0)
 
-pub part-block : (t : List ℕ) (a n : ℕ) → block (take (length t - a) (drop a t)) 0 n ≡ block t a n
-part-block t a n =
-    is_block t a n (block (take (length t - a) (drop a t)) 0 n) (block-length (take (length t - a) (drop a t)) 0 n)
-    (λ i m. block_at (take (length t - a) (drop a t)) 0 n i m ∙ rw zero-add (part_at t a i))
+-- as much of that part as a run has, over zeros, is the run
+pub copied : (t part new : List ℕ) (a m n : ℕ) → part ≡ take (length t - a) (drop a t) → m ≡ min (length part) n → new ≡ take m part
+    → new ++ drop m (replicate n 0) ≡ block t a n
+copied t part new a m n p e c =
+    rw (c, drop-replicate {X = ℕ} m n 0)
+    (is_block t a n (take m part ++ replicate (n - m) 0) (rw (length-append, length-take, length-replicate) (omega (arith, e)))
+    (λ i l. ⊎_elim (within i) (past i l) (lt-or-le i m) ∙ rw p (part_at t a i)))
+  where
+    within : (i : ℕ) → i < m → (take m part ++ replicate (n - m) 0) ! i ≡ part ! i
+    within i h = get_or-append (take m part) (replicate (n - m) 0) 0 i (rw length-take (omega (arith, e))) ∙ get_or-take m part i 0 h
+
+    past : (i : ℕ) → i < n → m ≤ i → (take m part ++ replicate (n - m) 0) ! i ≡ part ! i
+    past i l h =
+        get_or-append_right (take m part) (replicate (n - m) 0) m i 0 (rw length-take (omega (arith, e))) h ∙ get_or-replicate (n - m) (i - m) 0 0 (omega arith)
+        ∙ sym (past_end part i (omega (arith, e)))

@@ -1,4 +1,5 @@
-// Where the record of each place begins in the row; any number has an address, also past its table.
+// Where the record of each place begins in the row; any number has an address, also past its table. One function a table: each is one sum, with another
+// start and another size, and says no less than a row of numbers would.
 ghost use Rattle.std.specs.Prelude.{◌≡◌};
 ghost use Rattle.model.specs.Layout.{process_addr, user_addr, role_addr, ipc_addr, file_addr, kept_addr, rights_addr};
 

@@ -1,8 +1,7 @@
-// The tables in one lent row of words: its words, its addresses, its records by value, its places; and the sets of a claim.
+// The tables in one lent row of words: its words, its addresses, its records by value, its places; and a claim beside it.
 #![tactic(auto)]
 
 pub mod addresses;
-pub mod cases;
 pub mod claim;
 pub mod places;
 pub mod records;

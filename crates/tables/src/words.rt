@@ -9,7 +9,7 @@ use sets::RoleSet;
 pub fn word(t: &[u32], a: usize) -> u32
     ensures { result ≡ t.now ! a }
 {
-    if a < t.len() { t[a] } else { 0 }
+    t.get(a).copied().unwrap_or(0)
 }
 
 // The set kept in the word at a.
@@ -19,7 +19,7 @@ pub fn set_at(t: &[u32], a: usize) -> RoleSet
     RoleSet { bits: word(t, a) }
 }
 
-// The row with v at a.
+// The row with v at a. By `get_mut` it is not proved: what it lends tells nothing of the row.
 pub fn set_word(t: &mut [u32], a: usize, v: u32)
     ensures { t.new ≡ set t.old a v }
 {
@@ -29,15 +29,14 @@ pub fn set_word(t: &mut [u32], a: usize, v: u32)
 }
 
 // The row with the words vs at a, a + 1, ..; past the end there is nothing to do.
+#[tactic(auto, using(crate::proofs::Laws::puts), unfolding(model::specs::Words::put))]
 pub fn put_words(t: &mut [u32], a: usize, vs: &[u32])
     ensures { t.new ≡ put t.old a vs.now }
 {
     if t.len() < a {
         return;
     }
-    let mut k = 0;
-    while k < vs.len() {
-        set_word(t, a + k, vs[k]);
-        k += 1;
+    for (k, v) in vs.iter().enumerate() {
+        set_word(t, a + k, *v);
     }
 }

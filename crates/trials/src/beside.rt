@@ -1,72 +1,83 @@
 // What is kept beside the files (W-206): entries of the root, a file and a free place, a refresh of a directory whose file lies at a lower place, a
 // file with a type of its own, which does not follow until it inherits, and a kept word that is not the climb's.
-use crate::administrator::{add_right, create, set_file_type};
-use crate::tell::{granted, line, part};
-use fresh::build_fresh;
+use crate::calls::{add_right, create, set_file_type};
+use crate::tries::{begin, granted, tried};
 use model::Call;
 use model::layout::{KEPT_FORCED, KEPT_INITIAL, KEPT_TYPE};
-use model::numbers::{CREATE, DELETE, DIR, FILE, FILESYSTEM, INHERIT_PARENT};
-use monitor::step;
+use model::numbers::{CREATE, DELETE, DIR, FILE, FILESYSTEM, INHERIT_PARENT, ROOT};
 use std::io;
 use tables::addresses::kept_addr;
 use tables::records::kept_at;
 use tables::words::set_word;
 
-fn entry(rt: &impl Print, text: &str, t: &[u32], o: u32) -> io::Result<()> {
-    part(rt, text, kept_at(t, KEPT_TYPE, o))?;
-    part(rt, " ", kept_at(t, KEPT_INITIAL, o))?;
-    line(rt, " ", kept_at(t, KEPT_FORCED, o))
-}
-
-fn types(rt: &impl Print, text: &str, t: &[u32]) -> io::Result<()> {
-    part(rt, text, kept_at(t, KEPT_TYPE, 2))?;
-    part(rt, ", of its files ", kept_at(t, KEPT_TYPE, 1))?;
-    line(rt, " and ", kept_at(t, KEPT_TYPE, 3))
-}
-
-// Directory 2 in the root, and in it file 1, where another file was deleted.
+// Directory 2 in the root, and in it file 1, where another file was deleted, and file 3, with type 7.
 fn planted(rt: &impl Print, t: &mut [u32]) -> io::Result<()> {
-    granted(rt, create(t, FILE, 0))?;
-    granted(rt, create(t, DIR, 0))?;
-    granted(rt, step(t, 0, Call::Delete { file: 1 }))?;
-    granted(rt, create(t, FILE, 2))
+    let calls = [
+        add_right(FILESYSTEM, 0, 0, CREATE),
+        add_right(FILESYSTEM, 0, 0, DELETE),
+        create(FILE, ROOT),
+        create(DIR, ROOT),
+        Call::Delete { file: 1 },
+        create(FILE, 2),
+        create(FILE, 2),
+        set_file_type(3, 7),
+    ];
+    begin(rt, t, &calls)
 }
 
-// File 3 in the same directory, with type 7.
-fn typed(rt: &impl Print, t: &mut [u32]) -> io::Result<()> {
-    granted(rt, create(t, FILE, 2))?;
-    granted(rt, set_file_type(t, 3, 7))
-}
-
+// The three values kept beside files.
 fn entries(rt: &impl Print, t: &[u32]) -> io::Result<()> {
-    entry(rt, "kept for the root: ", t, 0)?;
-    entry(rt, "kept for file 3, of type 7: ", t, 3)?;
-    entry(rt, "kept for place 4, which is free: ", t, 4)
+    for (text, o) in [
+        ("the root", ROOT),
+        ("file 3, of type 7", 3),
+        ("place 4, which is free", 4),
+    ] {
+        let kept = |k| kept_at(t, k, o);
+        println!(rt;
+            "kept for {text}: {} {} {}",
+            kept(KEPT_TYPE),
+            kept(KEPT_INITIAL),
+            kept(KEPT_FORCED)
+        )?;
+    }
+    Ok(())
 }
 
+// The types kept of the directory and its files, as they are, and after each of two changes.
 fn refreshed(rt: &impl Print, t: &mut [u32]) -> io::Result<()> {
-    types(rt, "type kept of directory 2: ", t)?;
-    granted(rt, set_file_type(t, 2, 5))?;
-    types(rt, "directory 2 gets type 5: ", t)?;
-    granted(rt, set_file_type(t, 3, INHERIT_PARENT))?;
-    types(rt, "file 3 inherits: ", t)
+    for (text, change) in [
+        ("type kept of directory 2", None),
+        ("directory 2 gets type 5", Some(set_file_type(2, 5))),
+        ("file 3 inherits", Some(set_file_type(3, INHERIT_PARENT))),
+    ] {
+        if let Some(call) = change {
+            granted(rt, t, 0, call)?;
+        }
+        let kept = |o| kept_at(t, KEPT_TYPE, o);
+        println!(rt;
+            "{text}: {}, of its files {} and {}",
+            kept(2),
+            kept(1),
+            kept(3)
+        )?;
+    }
+    Ok(())
 }
 
+// A kept word that is not the climb's.
 fn damaged(rt: &impl Print, t: &mut [u32]) -> io::Result<()> {
     set_word(t, kept_addr(1), 6);
-    line(
-        rt,
-        "number 1, a kept type that is not the climb's: ",
-        step(t, 0, Call::Exit).number,
-    )
+    let trial = (
+        "number 1, a kept type that is not the climb's",
+        0,
+        Call::Exit,
+    );
+    tried(rt, t, &[trial])
 }
 
+// Values kept beside files, refreshed, and damaged.
 pub(crate) fn run(rt: &impl Print, t: &mut [u32]) -> io::Result<()> {
-    build_fresh(t);
-    granted(rt, add_right(t, FILESYSTEM, 0, 0, CREATE))?;
-    granted(rt, add_right(t, FILESYSTEM, 0, 0, DELETE))?;
     planted(rt, t)?;
-    typed(rt, t)?;
     entries(rt, t)?;
     refreshed(rt, t)?;
     damaged(rt, t)

@@ -1,76 +1,49 @@
 // Claims: a10, and the numbers that a claim may get.
-use crate::tell::{line, part};
+use crate::tell::Judged;
+use crate::tries::begin;
 use claims::check;
-use fresh::build_fresh;
-use model::Verdict;
 use model::layout::{CLAIM_LENGTH, CLAIM_PROCESS, CLAIM_Q, CLAIM_S};
 use model::numbers::PROCESSES;
 use sets::RoleSet;
 use std::io;
 use tables::words::set_word;
 
-fn judged(rt: &impl Print, text: &str, v: Verdict) -> io::Result<()> {
-    part(rt, text, v.number)?;
-    line(rt, ", rule ", v.rule)
-}
-
-// A claim for a process and file type 0, with every T empty.
-fn claim(
-    rt: &impl Print,
-    text: &str,
-    t: &[u32],
-    process: u32,
-    s: RoleSet,
-    q: RoleSet,
-) -> io::Result<()> {
+// A claim for a process and file type 0, with S and Q alike and every T empty.
+fn claim(process: u32, roles: RoleSet) -> [u32; CLAIM_LENGTH] {
     let mut w = [0u32; CLAIM_LENGTH];
     set_word(&mut w, CLAIM_PROCESS, process);
-    set_word(&mut w, CLAIM_S, s.bits);
-    set_word(&mut w, CLAIM_Q, q.bits);
-    judged(rt, text, check(t, &w))
+    set_word(&mut w, CLAIM_S, roles.bits);
+    set_word(&mut w, CLAIM_Q, roles.bits);
+    w
 }
 
 // a10, which gives number 9.
 pub(crate) fn example(rt: &impl Print, t: &mut [u32]) -> io::Result<()> {
-    build_fresh(t);
+    begin(rt, t, &[])?;
     let none = RoleSet { bits: 0 };
-    let zero = none.add(0);
-    claim(
-        rt,
-        "a10 claim for process 0 with S empty: ",
-        t,
-        0,
-        none,
-        none,
-    )?;
-    claim(
-        rt,
-        "a10 claim for process 0 with S = {0}, Q = {0}: ",
-        t,
-        0,
-        zero,
-        zero,
-    )
+    for (text, roles) in [("S empty", none), ("S = {0}, Q = {0}", none.add(0))] {
+        let judged = Judged(check(t, &claim(0, roles)));
+        println!(rt; "a10 claim for process 0 with {text}: {judged}")?;
+    }
+    Ok(())
 }
 
+// The numbers 1 to 3.
 pub(crate) fn numbers(rt: &impl Print, t: &mut [u32]) -> io::Result<()> {
-    build_fresh(t);
+    begin(rt, t, &[])?;
     let none = RoleSet { bits: 0 };
-    judged(rt, "number 1, a claim of no words: ", check(t, &[0u32; 0]))?;
-    claim(
-        rt,
-        "number 2, a claim for process 64: ",
-        t,
-        PROCESSES,
-        none,
-        none,
-    )?;
-    claim(
-        rt,
-        "number 3, a claim for process 5, which is not live: ",
-        t,
-        5,
-        none,
-        none,
-    )
+    for (text, ended) in [
+        ("number 1, a claim of no words", check(t, &[])),
+        (
+            "number 2, a claim for process 64",
+            check(t, &claim(PROCESSES, none)),
+        ),
+        (
+            "number 3, a claim for process 5, which is not live",
+            check(t, &claim(5, none)),
+        ),
+    ] {
+        println!(rt; "{text}: {}", Judged(ended))?;
+    }
+    Ok(())
 }

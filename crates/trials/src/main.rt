@@ -7,8 +7,8 @@
 use model::layout::ROW_LENGTH;
 use std::io;
 
-mod administrator;
 mod beside;
+mod calls;
 mod claim;
 mod examples;
 mod full;
@@ -18,6 +18,7 @@ mod numbers;
 mod programs;
 mod sizes;
 mod tell;
+mod tries;
 mod users;
 mod whence;
 

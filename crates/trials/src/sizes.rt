@@ -1,7 +1,6 @@
 // How many compatible roles a role has (W-203): none, one at either end, one that is there already (H11), all.
-use crate::administrator::add_role;
-use crate::tell::{granted, line};
-use fresh::build_fresh;
+use crate::calls::add_role;
+use crate::tries::{begin, granted};
 use model::numbers::COMPATIBLE_ROLES;
 use std::io;
 use tables::addresses::role_addr;
@@ -9,25 +8,25 @@ use tables::records::role_at;
 use tables::words::set_word;
 
 // The set with every role in it.
-const ALL: u32 = 0xffff_ffff;
+const ALL: u32 = u32::MAX;
 
-fn told(rt: &impl Print, text: &str, t: &[u32]) -> io::Result<()> {
-    line(rt, text, role_at(t, 1).compatible.size())
+// The number of role 1's compatible roles.
+fn size(t: &[u32]) -> u32 {
+    role_at(t, 1).compatible.size()
 }
 
-fn with(rt: &impl Print, t: &mut [u32], member: u32) -> io::Result<()> {
-    granted(rt, add_role(t, COMPATIBLE_ROLES, 1, member))
-}
-
+// The number, as roles are added.
 pub(crate) fn run(rt: &impl Print, t: &mut [u32]) -> io::Result<()> {
-    build_fresh(t);
-    told(rt, "compatible roles of role 1: ", t)?;
-    with(rt, t, 0)?;
-    told(rt, "role 0 added: ", t)?;
-    with(rt, t, 31)?;
-    told(rt, "role 31 added: ", t)?;
-    with(rt, t, 31)?;
-    told(rt, "role 31 added again: ", t)?;
+    begin(rt, t, &[])?;
+    println!(rt; "compatible roles of role 1: {}", size(t))?;
+    for (text, member) in [
+        ("role 0 added", 0),
+        ("role 31 added", 31),
+        ("role 31 added again", 31),
+    ] {
+        granted(rt, t, 0, add_role(COMPATIBLE_ROLES, 1, member))?;
+        println!(rt; "{text}: {}", size(t))?;
+    }
     set_word(t, role_addr(1) + (COMPATIBLE_ROLES as usize), ALL);
-    told(rt, "all roles: ", t)
+    println!(rt; "all roles: {}", size(t))
 }

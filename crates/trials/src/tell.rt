@@ -1,58 +1,60 @@
-// How a trial is told: its words, then the numbers that it came to.
-use model::{Answer, Found};
-use std::io;
-use tables::cases::forced_word;
-use tables::records::process_at;
+// How a trial is told: what it came to, in the numbers that C reads.
+use model::{Answer, Climbed, Found, Objection, Process, Refusal, Verdict};
+use std::fmt;
 
-// Words and a number after them.
-pub(crate) fn part(rt: &impl Print, text: &str, n: u32) -> io::Result<()> {
-    print!(rt; "{text}{n}")
+// The number of a call: 0 for a grant, else the refusal's.
+pub(crate) fn number(ended: Result<u32, Refusal>) -> u32 {
+    Answer::from(ended).number
 }
 
-// The last words of a line and a number after them; a trial that comes to one number has no others.
-pub(crate) fn line(rt: &impl Print, text: &str, n: u32) -> io::Result<()> {
-    println!(rt; "{text}{n}")
-}
+// A call's number, and the place that it gives.
+#[derive(Clone, Copy)]
+pub(crate) struct Placed(pub(crate) Answer);
 
-// A trial that comes to yes or no.
-pub(crate) fn holds(rt: &impl Print, text: &str, ok: bool) -> io::Result<()> {
-    let told = if ok { "yes" } else { "no" };
-    println!(rt; "{text}{told}")
-}
-
-// A trial whose answer carries a place.
-pub(crate) fn placed(rt: &impl Print, text: &str, a: Answer) -> io::Result<()> {
-    println!(rt; "{text}{}, place {}", a.number, a.place)
-}
-
-// A trial of a query.
-pub(crate) fn climbed(rt: &impl Print, text: &str, found: Found) -> io::Result<()> {
-    println!(rt;
-        "{text}{}, value {}, parents climbed {}, place {}",
-        found.number, found.value, found.climbed, found.place
-    )
-}
-
-// A trial that comes to what a process then is.
-pub(crate) fn process(rt: &impl Print, text: &str, t: &[u32], p: u32) -> io::Result<()> {
-    let found = process_at(t, p);
-    println!(rt;
-        "{text}: role {}, type {}, forced {}",
-        found.role,
-        found.rctype,
-        forced_word(found.forced)
-    )
-}
-
-// How often a call was granted, and the number that the next one got.
-pub(crate) fn counted(rt: &impl Print, n: u32, text: &str, next: u32) -> io::Result<()> {
-    println!(rt; "{n}{text}{next}")
-}
-
-// A call that a trial needs granted first: only a refusal is told.
-pub(crate) fn granted(rt: &impl Print, a: Answer) -> io::Result<()> {
-    if a.number != 0 {
-        line(rt, "a call that must be granted got ", a.number)?;
+impl fmt::Display for Placed {
+    fn fmt<W: fmt::Write>(&self, f: &mut fmt::Formatter<W>) -> fmt::Result {
+        write!(f, "{}, place {}", self.0.number, self.0.place)
     }
-    Ok(())
+}
+
+// A query's number, the value, and how far and to which place it was climbed.
+#[derive(Clone, Copy)]
+pub(crate) struct Looked(pub(crate) Result<Climbed, Refusal>);
+
+impl fmt::Display for Looked {
+    fn fmt<W: fmt::Write>(&self, f: &mut fmt::Formatter<W>) -> fmt::Result {
+        let found = Found::from(self.0);
+        write!(
+            f,
+            "{}, value {}, parents climbed {}, place {}",
+            found.number, found.value, found.climbed, found.place
+        )
+    }
+}
+
+// A claim's number, and the rule that it breaks.
+#[derive(Clone, Copy)]
+pub(crate) struct Judged(pub(crate) Result<(), Objection>);
+
+impl fmt::Display for Judged {
+    fn fmt<W: fmt::Write>(&self, f: &mut fmt::Formatter<W>) -> fmt::Result {
+        let verdict = Verdict::from(self.0);
+        write!(f, "{}, rule {}", verdict.number, verdict.rule)
+    }
+}
+
+// A process: its role, its type, and its forced role's number.
+#[derive(Clone, Copy)]
+pub(crate) struct State(pub(crate) Process);
+
+impl fmt::Display for State {
+    fn fmt<W: fmt::Write>(&self, f: &mut fmt::Formatter<W>) -> fmt::Result {
+        let process = self.0;
+        let forced = u32::from(process.forced);
+        write!(
+            f,
+            "role {}, type {}, forced {forced}",
+            process.role, process.rctype
+        )
+    }
 }

@@ -1,12 +1,13 @@
 -- The words that are written, and then what is kept of them.
 -- Assumes nothing.
-use Rattle.administration.proofs.Along.{first-is-all, second-along}
+use Rattle.std.proofs.Common.{◌≡◌, sym, Err, arith}
+use Rattle.administration.proofs.Along.{refused_whole, kept_along}
 use Rattle.administration.proofs.administer.Goals as goal
 
-pub returns-then-values-answer : goal.returns-then-values-answer
-returns-then-values-answer c =
-    first-is-all _ _ _ _ _ _ c.write-answer.ensures c.file_values-values.ensures c.if-values-answer.true
+pub returns-in_err-place : goal.returns-in_err-place
+returns-in_err-place c =
+    let e : c.from_residual.result ≡ Err c.in_err-place.field-0.0 = grind arith in
+    rw e (refused_whole _ _ _ _ _ _ c.write.ensures c.in_err-place.was)
 
 pub returns : goal.returns
-returns c =
-    second-along _ _ _ _ _ _ c.write-answer.ensures c.file_values-values.ensures _ c.if-values-answer.false c.keep_along.ensures
+returns c = kept_along _ _ _ _ _ _ _ c.write.ensures c.in_ok-place.was c.keep_values.ensures

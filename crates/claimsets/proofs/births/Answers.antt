@@ -1,24 +1,12 @@
-use Rattle.std.proofs.Common.{◌≡◌, sym, ◌∙◌, arith, rules}
-use Rattle.claimsets.specs.Family.{bears, born, row_of}
-use Rattle.claimsets.proofs.Family.{none-added, one-added, none_more}
-use Rattle.claimsets.proofs.births.Goals.{then-has, else-has}
+-- No right is no CREATE, and creates nothing.
+use Rattle.std.proofs.Common.{rules}
+use Rattle.std.proofs.lemmas.List.FromFn.{fill_by_all}
+use Rattle.sets.proofs.Sets.{empty-has}
+use Rattle.claimsets.specs.Family.{birth, born, row_of}
 use Rattle.claimsets.proofs.births.Goals as goal
 
-pub loop-r-init : goal.loop-r-init
-unfolding row_of
-loop-r-init c = let a = c.args in (none-added a.roles.bits (bears a.t.now), search rules)
-
-pub loop-r-preserved : goal.loop-r-preserved
-loop-r-preserved c =
-    let h = sym c.has.ensures in
-    let i = c.loop-r.invariant in
-    elim c.if-has.branch [
-      | then-has w ↦ (rw (w.row-is, w.join_role.ensures, i.0) (one-added _ _ _ (h ∙ w.if-has.true)), search rules)
-      | else-has w ↦ (rw (w.row-is, i.0) (none_more _ _ _ (h ∙ w.if-has.false)), search rules)
-    ]
-
 pub returns : goal.returns
-unfolding born
+unfolding birth born row_of
 returns c =
-    let e : c.loop-r.r ≡ 32 = omega arith in
-    rw e at c.loop-r.invariant.0
+    fill_by_all _ c.joined.result 32 0 (search rules)
+    (c.joined.ensures (birth c.args.t.now) (λ r. ((λ x s p. search rules), rw empty-has)))

@@ -1,28 +1,24 @@
-use Rattle.std.proofs.Common.{◌≡◌, refl, sym, ◌∙◌, add-one, arith, rules}
-use Rattle.sets.specs.Sets.{has, collect}
-use Rattle.sets.proofs.Sets.{collect-same}
-use Rattle.claimsets.specs.Family.{reach}
-use Rattle.claimsets.proofs.Family.{row_at}
+use Rattle.std.proofs.Common.{◌≡◌, refl, add-one, arith, rules}
+use Rattle.sets.specs.Sets.{collect}
+use Rattle.claimsets.specs.Family.{rights_to, reach}
 use Rattle.claimsets.proofs.reach.Goals.{then-has, else-has}
 use Rattle.claimsets.proofs.reach.Goals as goal
 
 pub loop-k-init : goal.loop-k-init
 unfolding collect
-loop-k-init c = (refl, search rules)
+loop-k-init c = refl
 
 pub loop-k-preserved : goal.loop-k-preserved
-unfolding collect
+unfolding collect rights_to
 loop-k-preserved c =
-    let h = sym c.has.ensures in
-    let i = c.loop-k.invariant in
+    let i = c.loop-k in
+    let row = c.joined-row.ensures (λ r x. x) (λ r. ((λ x s p. search rules), refl)) i.k c.loop-k-test.true in
+    let has = rw (c.set_at.ensures, row) at c.has.ensures in
     elim c.if-has.branch [
-      | then-has w ↦ (rw (add-one, h ∙ w.if-has.true, w.types-is, w.add-types.ensures, i.0), search rules)
-      | else-has w ↦ (rw (add-one, h ∙ w.if-has.false, w.types-is) i.0, search rules)
+      | then-has w ↦ rw (add-one, ← has, w.if-has.true, w.types-is, w.add-types.ensures, i.invariant)
+      | else-has w ↦ rw (add-one, ← has, w.if-has.false, w.types-is) i.invariant
     ]
 
 pub returns : goal.returns
 unfolding reach
-returns c =
-    let e : c.loop-k.k ≡ 32 = omega arith in
-    rw (e, c.rights_of-row.ensures) at c.loop-k.invariant.0
-    ∙ collect-same _ _ (λ k l. rw (row_at _ k l))
+returns c = let e : c.loop-k.k ≡ 32 = omega arith in rw e at c.loop-k.invariant

@@ -1,12 +1,8 @@
--- The invariant: the set so far has the types below k to which a role has the right, as the row of rights tells.
--- Assumes nothing.
-use Rattle.std.proofs.Common.{◌≤◌, ◌-◌, ◌≡◌}
+-- The set so far has the types below k to which a role has the right.
+use Rattle.std.proofs.Common.{◌≡◌}
 use Rattle.sets.specs.Sets.{has, collect}
-use Rattle.model.specs.Words.{◌!◌}
+use Rattle.claimsets.specs.Family.{rights_to}
 use Rattle.claimsets.proofs.reach.Given as goal
 
 abbrev pub invariant-loop-k : goal.invariant-loop-k
-invariant-loop-k l = (l.types.bits ≡ collect l.k (λ k'. has (l.row ! k') l.right)) × (l.k ≤ 32)
-
-abbrev pub decreases-loop-k : goal.decreases-loop-k
-decreases-loop-k l = 32 - l.k
+invariant-loop-k l = (l.types.bits ≡ collect l.k (λ k'. has (rights_to l.t l.fn.roles.bits l.group k') l.right))

@@ -1,4 +1,4 @@
-use Rattle.std.proofs.Common.{ℕ, ◌-◌, false, List, refl, sym, ap, ◌∙◌, arith, rules}
+use Rattle.std.proofs.Common.{ℕ, ◌-◌, List, refl, sym, ap, ◌∙◌, arith, rules}
 use mathlib.Core.Bool.{false≢true}
 use Rattle.sets.proofs.Below.{walks-below}
 use Rattle.model.specs.KeptValues.{swept, sweeps}

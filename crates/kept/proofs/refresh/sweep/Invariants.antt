@@ -5,7 +5,4 @@ use Rattle.model.specs.KeptValues.{swept}
 use Rattle.kept.proofs.refresh.sweep.Given as goal
 
 abbrev pub invariant-loop-o : goal.invariant-loop-o
-invariant-loop-o l = (l.t ≡ swept l.low (l.o - l.low) l.initial.t l.k) × (l.moved ≡ false → l.t ≡ l.initial.t) × (length l.t ≡ length l.initial.t) × (l.low ≤ l.o) × (l.o - l.low ≤ l.end - l.low)
-
-abbrev pub decreases-loop-o : goal.decreases-loop-o
-decreases-loop-o l = l.end - l.o
+invariant-loop-o l = (l.t ≡ swept l.low (l.o - l.low) l.initial.t l.k) × (l.moved ≡ false → l.t ≡ l.initial.t) × (length l.t ≡ length l.initial.t) × (l.o - l.low ≤ l.end - l.low)

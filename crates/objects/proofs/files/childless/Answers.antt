@@ -1,8 +1,8 @@
-use Rattle.std.proofs.Common.{ℕ, ◌≡◌, sym, ◌∙◌, true, List, arith, rules, eqb}
+use Rattle.std.proofs.Common.{ℕ, ◌≤◌, ◌≡◌, sym, true, List, arith, eqb}
 use mathlib.Core.Bool.{or-true}
-use borrow.Author.Tests.{not-true, not-false}
 use Rattle.sets.specs.Below.{all_below, first_below}
-use Rattle.sets.proofs.Below.{all_of, all-next, all-miss, first-least, first-bound}
+use Rattle.sets.proofs.Below.{all_of, first-least, first-bound}
+use Rattle.sets.proofs.Walks.{all_left}
 use Rattle.model.specs.Numbers.{FILES}
 use Rattle.model.specs.Layout.{PARENT}
 use Rattle.model.specs.Records.{file_word}
@@ -15,21 +15,16 @@ unfolding not_child
 none_before t o = all_of _ _ (λ k l. rw (first-least _ FILES k l, or-true))
 
 pub loop-q-init : goal.loop-q-init
-loop-q-init c = rw c.first_named-q.ensures (none_before _ _, first-bound _ FILES)
+loop-q-init c = rw c.first_named-q.ensures (none_before _ _)
 
 pub returns-then-not-not_child : goal.returns-then-not-not_child
 unfolding childless
 returns-then-not-not_child c =
-    let x = c.not_child in
-    sym (all-miss _ FILES c.loop-q.q (search rules) (sym x.ensures ∙ not-true x.result c.if-not-not_child.true-raw))
-
-pub loop-q-preserved : goal.loop-q-preserved
-loop-q-preserved c =
-    let x = c.not_child in
-    (rw (all-next, c.loop-q.invariant.0, ← x.ensures) (not-false x.result c.if-not-not_child.false-raw), search rules)
+    all_left _ FILES c.loop-q.q _ c.loop-q-test.true c.not_child.ensures c.if-not-not_child.true
 
 pub returns : goal.returns
 unfolding childless
 returns c =
+    let l : c.first_named-q.result ≤ FILES = rw c.first_named-q.ensures (first-bound _ FILES) in
     let e : c.loop-q.q ≡ FILES = omega arith in
-    sym (rw e at c.loop-q.invariant.0)
+    sym (rw e at c.loop-q.invariant)

@@ -1,15 +1,14 @@
--- The role's words of one group lie side by side, and are handed on as a part of the row.
--- Assumes nothing.
-use Rattle.std.proofs.Common.{◌∙◌, arith}
-use Rattle.tables.proofs.Laws.{none-at, part-block}
+-- What stands from the address on is copied over zeros; past the end of the row zeros are left.
+use Rattle.std.proofs.Common.{arith}
+use Rattle.tables.proofs.Laws.{copied, none-at}
 use Rattle.tables.proofs.records.rights_row.Goals as goal
 
-pub returns-then-a-t : goal.returns-then-a-t
-returns-then-a-t c =
-    let a = c.rights_addr-a in
-    c.leading.ensures ∙ rw a.ensures (part-block _ _ 32)
+pub returns-in-Some : goal.returns-in-Some
+returns-in-Some c =
+    let part = c.in-Some.ensures.lookup.0 in
+    rw (← c.rights_addr.ensures) (copied _ _ _ _ _ 32 part.2 c.min-n.ensures c.copy_from_slice.ensures.after)
 
-pub returns : goal.returns
-returns c =
-    let a = c.rights_addr-a in
-    rw (← a.ensures) (none-at _ a.result 32 (omega (arith, c.if-a-t.false)))
+pub returns-in_default : goal.returns-in_default
+returns-in_default c =
+    let a = c.rights_addr in
+    rw (← a.ensures) (none-at _ a.result 32 (omega (arith, c.in_default.ensures.lookup.0)))
