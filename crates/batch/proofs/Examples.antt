@@ -17,10 +17,10 @@ use Rattle.marked.proofs.Computing.{acting, step-acting}
 use Rattle.std.specs.Prelude.{Option, Some, None}
 use Rattle.model.specs.declared.Call.{Call}
 use Rattle.decoding.specs.Kinds.{CALL-ACCESS, CALL-ADD-RIGHT, CALL-CLONE, CALL-EXIT, takes, decode_of}
-use Rattle.kinds.specs.ByKind.{step_by_kind, written}
+use Rattle.kinds.specs.ByKind.{written}
 use Rattle.kinds.proofs.ByKind.{done-written}
 use Rattle.batch.specs.declared.items.Item.{Item}
-use Rattle.batch.specs.Items.{ITEM-BYTES, item_of, made, padded}
+use Rattle.batch.specs.Items.{ITEM-BYTES, call_in, item_of, made, padded}
 use Rattle.batch.specs.Batch.{ANSWER-BYTES, answers_after, batch, batch_no, item_at, items, tables_after}
 use Rattle.batch.proofs.Laws.{batch-granted, tables-kept}
 
@@ -32,9 +32,9 @@ acts t caller (Some call) = acting t caller call
 
 -- an item on tables that are well formed; its line names all that an item is made of
 unfoldable makes : List ℕ → Option Item → Outcome
-unfolding acting decode_of takes all_below
+unfolding acting call_in decode_of takes all_below
 makes t None = refusing 2 t
-makes t (Some i) = acts t i.caller (decode_of i.kind i.numbers)
+makes t (Some i) = acts t i.caller (call_in (Some i))
 
 -- the tables and the slice after k items
 abbrev Both : Type 0
@@ -55,9 +55,9 @@ acts-written t caller None w = done-written t caller None w
 acts-written t caller (Some call) w = sym (step-acting t caller call w)
 
 made-makes : (t : List ℕ) (i : Option Item) → well_formed t ≡ true → made t i ≡ makes t i
-unfolding made makes step_by_kind
+unfolding made call_in makes
 made-makes t None w = sym (done-written t 0 None w)
-made-makes t (Some i) w = sym (acts-written t i.caller (decode_of i.kind i.numbers) w)
+made-makes t (Some i) w = sym (acts-written t i.caller (call_in (Some i)) w)
 
 after-ran : (t q s : List ℕ) (k : ℕ) → well_formed t ≡ true → (tables_after t q k, answers_after t q s k) ≡ ran t q s k
 unfolding tables_after answers_after ran

@@ -20,13 +20,12 @@ use Rattle.model.proofs.Decided.{decided, eqb-iff, neb-iff, tested}
 use Rattle.model.proofs.Kept.{step_kept}
 use Rattle.promises.proofs.Changes.{every-answer-fits-two-bytes}
 use Rattle.std.specs.Prelude.{Option, Some, None}
-use Rattle.decoding.specs.Kinds.{decode_of}
 use Rattle.model.specs.declared.Call.{Call}
 use Rattle.formed.proofs.Whole.{whole_drop, whole-fits, whole_length, whole_take}
 use Rattle.kinds.specs.ByKind.{step_by_kind, written}
 use Rattle.kinds.proofs.ByKind.{done-written, on-well-formed-tables-act-by-kind-is-step-by-kind, written-ill}
 use Rattle.batch.specs.declared.items.Item.{Item}
-use Rattle.batch.specs.Items.{acted, made}
+use Rattle.batch.specs.Items.{acted, call_in, made}
 use Rattle.batch.specs.Batch.{ANSWER-BYTES, Batch, answer_to, answers_after, batch, batch_no, batched, item_at, items, tables_after}
 
 -- ---- what was written
@@ -50,19 +49,19 @@ module _ (t : List ℕ) (caller : ℕ) where
 
 module _ (t : List ℕ) where
   pub acted-made : (i : Option Item) → well_formed t ≡ true → acted t i ≡ made t i
-  unfolding made
+  unfolding made call_in step_by_kind
   acted-made None w = done-written t 0 None w
   acted-made (Some i) w = on-well-formed-tables-act-by-kind-is-step-by-kind t i.kind i.caller i.numbers w
 
   pub made_kept : (i : Option Item) → well_formed t ≡ true → well_formed (made t i).after ≡ true
-  unfolding made step_by_kind
-  made_kept None w = written-kept t 0 None w
-  made_kept (Some i) w = written-kept t i.caller (decode_of i.kind i.numbers) w
+  unfolding made
+  made_kept None w = written-kept t 0 (call_in None) w
+  made_kept (Some i) w = written-kept t i.caller (call_in (Some i)) w
 
   pub made-fits : (i : Option Item) → ((made t i).answer.number < 256) × ((made t i).answer.place < 256)
-  unfolding made step_by_kind
-  made-fits None = written-fits t 0 None
-  made-fits (Some i) = written-fits t i.caller (decode_of i.kind i.numbers)
+  unfolding made
+  made-fits None = written-fits t 0 (call_in None)
+  made-fits (Some i) = written-fits t i.caller (call_in (Some i))
 
 -- ---- one item more
 

@@ -13,7 +13,6 @@ use Rattle.model.specs.Words.{◌!◌, put}
 use Rattle.model.proofs.Words.{put-length, word-put-other, word-set-other, word-set-same}
 use Rattle.promises.proofs.Changes.{a-refused-call-changes-nothing}
 use Rattle.std.specs.Prelude.{Option, Some, None}
-use Rattle.decoding.specs.Kinds.{decode_of}
 use Rattle.model.specs.declared.Call.{Call}
 use Rattle.kinds.specs.ByKind.{step_by_kind, written}
 use Rattle.kinds.proofs.ByKind.{done-written, written-ill}
@@ -26,12 +25,12 @@ use Rattle.batch.proofs.Laws.{batch-granted, batch-number, batch-roomy, either_w
 -- ---- one item
 
 pub an-item-is-its-call-by-kind : An-item-is-its-call-by-kind
-unfolding made item_of
+unfolding made call_in step_by_kind item_of
 an-item-is-its-call-by-kind t = (λ i. refl, λ b e. rw e)
 
 pub an-item-that-is-no-call-is-2 : An-item-that-is-no-call-is-2
-unfolding made call_in step_by_kind
-an-item-that-is-no-call-is-2 t None w e = sym (done-written t 0 None w)
+unfolding made
+an-item-that-is-no-call-is-2 t None w e = rw e (sym (done-written t 0 None w))
 an-item-that-is-no-call-is-2 t (Some i) w e = rw e (sym (done-written t i.caller None w))
 
 pub every-items-answer-fits-its-bytes : Every-items-answer-fits-its-bytes
@@ -51,9 +50,9 @@ module _ (t : List ℕ) (caller : ℕ) where
   refused-stays (Some call) h = a-refused-call-changes-nothing t caller call h
 
 refused-item-stays : (t : List ℕ) (i : Option Item) → (made t i).answer.number ≢ 0 → ((made t i).after ≡ t) × ((made t i).answer.place ≡ 0)
-unfolding made step_by_kind
-refused-item-stays t None h = unknown-stays t 0
-refused-item-stays t (Some i) h = refused-stays t i.caller (decode_of i.kind i.numbers) h
+unfolding made
+refused-item-stays t None h = refused-stays t 0 (call_in None) h
+refused-item-stays t (Some i) h = refused-stays t i.caller (call_in (Some i)) h
 
 pub a-refused-item-changes-nothing : A-refused-item-changes-nothing
 unfolding tables_after

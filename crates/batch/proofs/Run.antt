@@ -7,11 +7,10 @@ use mathlib.Core.Path.{◌∙◌, ◌≡◌, ap, refl, sym}
 use Rattle.model.specs.WellFormed.{well_formed}
 use Rattle.model.specs.Runs.{Event, after, happens}
 use Rattle.std.specs.Prelude.{Option, Some, None}
-use Rattle.decoding.specs.Kinds.{decode_of}
 use Rattle.model.specs.declared.Call.{Call}
-use Rattle.kinds.specs.ByKind.{step_by_kind, written}
+use Rattle.kinds.specs.ByKind.{written}
 use Rattle.batch.specs.declared.items.Item.{Item}
-use Rattle.batch.specs.Items.{made}
+use Rattle.batch.specs.Items.{call_in, made}
 use Rattle.batch.specs.Batch.{item_at, items, tables_after}
 use Rattle.batch.specs.Promises.{A-batch-keeps-the-tables-well-formed, A-granted-batch-is-a-run, asked, asked_by, said_by}
 use Rattle.batch.proofs.Laws.{batch-granted, batch-number, either_way, tables-kept}
@@ -28,9 +27,9 @@ after-written t caller None = (unknown-stays t caller).0
 after-written t caller (Some call) = refl
 
 after-item : (t : List ℕ) (i : Option Item) → (made t i).after ≡ after t (asked_by i)
-unfolding made after step_by_kind
+unfolding made call_in after
 after-item t None = (unknown-stays t 0).0
-after-item t (Some i) = after-written t i.caller (decode_of i.kind i.numbers)
+after-item t (Some i) = after-written t i.caller (call_in (Some i))
 
 tables-run : (t q : List ℕ) (k : ℕ) → tables_after t q k ≡ after t (asked q k)
 unfolding tables_after asked after

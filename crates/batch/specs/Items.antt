@@ -6,7 +6,7 @@ use Rattle.model.specs.declared.Call.{Call}
 use Rattle.model.specs.Outcome.{Outcome, refusing}
 use Rattle.model.specs.Words.{◌!◌, block}
 use Rattle.decoding.specs.Kinds.{NUMBERS, decode_of}
-use Rattle.kinds.specs.ByKind.{act_by_kind, no_call, step_by_kind}
+use Rattle.kinds.specs.ByKind.{act_by_kind, written}
 use Rattle.batch.specs.declared.items.Item.{Item}
 
 abbrev pub ITEM-BYTES : ℕ
@@ -44,8 +44,8 @@ call_in (Some i) = decode_of i.kind i.numbers
 
 -- the item made on the row t, through the one entry, as any call that is written by kind and numbers: what is no call is 2
 unfoldable pub made : List ℕ → Option Item → Outcome
-made t None = no_call t
-made t (Some i) = step_by_kind t i.kind i.caller i.numbers
+made t None = written t 0 (call_in None)
+made t (Some i) = written t i.caller (call_in (Some i))
 
 -- the same on tables that are known to be well formed
 abbrev pub acted : List ℕ → Option Item → Outcome

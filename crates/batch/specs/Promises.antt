@@ -8,7 +8,7 @@ use Rattle.model.specs.Words.{◌!◌, block}
 use Rattle.model.specs.Runs.{Event, after, asks}
 use Rattle.promises.specs.Tests.{FirstFails, Hold, Test, ◌if_not◌}
 use Rattle.kinds.specs.ByKind.{step_by_kind}
-use Rattle.decoding.specs.Kinds.{NUMBERS, decode_of}
+use Rattle.decoding.specs.Kinds.{NUMBERS}
 use Rattle.batch.specs.declared.items.Item.{Item}
 use Rattle.batch.specs.Items.{CALLER-BYTE, KIND-BYTE, NUMBERS-AT, call_in, item_of, made, padded}
 use Rattle.batch.specs.Batch.{ANSWER-BYTES, answer_to, batch, batched, item_at, items, roomy, tables_after, whole}
@@ -90,7 +90,7 @@ said_by caller (Some call) = asks caller call ∷ []
 
 abbrev pub asked_by : Option Item → List Event
 asked_by None = []
-asked_by (Some i) = said_by i.caller (decode_of i.kind i.numbers)
+asked_by (Some i) = said_by i.caller (call_in (Some i))
 
 -- what the first k items ask, in their order
 unfoldable pub asked : List ℕ → ℕ → List Event

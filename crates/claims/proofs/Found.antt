@@ -1,7 +1,7 @@
 -- What was found is not looked for again: a set that was found closed is the one that is known, so that the types of a DIR are closed exactly where they
 -- are that set; and values that were found last add nothing.
 -- Assumes nothing.
-use Rattle.std.proofs.Common.{ℕ, ◌≡◌, ◌∙◌, refl, sym, Bool, true, false, cond, not, ◌&&◌, ◌||◌, List, eqb, eq-eqb, ne_eqb, eqb-true}
+use Rattle.std.proofs.Common.{ℕ, ◌≡◌, ◌∙◌, refl, sym, Bool, true, cond, not, ◌&&◌, ◌||◌, List, eqb, eq-eqb, ne_eqb, eqb-true, arith}
 use mathlib.Core.Bool.{true≢false}
 use Rattle.sets.proofs.Below.{by_bool, left, right}
 use Rattle.model.specs.Numbers.{DIR, INHERIT-USER, UP-MIXED}
@@ -9,7 +9,7 @@ use Rattle.model.specs.Claims.{plain_in}
 use Rattle.model.proofs.Records.{by_cond}
 use Rattle.claimsets.specs.Family.{closed}
 use Rattle.claims.specs.declared.files.Carried.{Carried}
-use Rattle.claims.specs.Parts.{last_closed, carried_with}
+use Rattle.claims.specs.Parts.{last_closed, carried_with, Settled, Adds}
 
 module _ (row : List ℕ) (known kind types : ℕ) (k : closed row known ≡ true) where
   -- the types of a DIR are closed exactly where they are the last set found closed
@@ -43,3 +43,18 @@ module _ (c : Carried) (s i f : ℕ) (last : Last s c) where
       let same-forced : f ≡ c.forced = eqb-true _ _ (right (eqb i c.initial) (eqb f c.forced) e) in
       rw (same-initial, same-forced) last)
       (λ e. (refl, refl, refl))
+
+module _ (c : Carried) (s i f : ℕ) where
+  found_last : Settled s c → Settled s (carried_with c s i f)
+  unfolding carried_with
+  found_last h = grind arith
+
+  -- so all that is carried is what it was and what the two bring, which are then those that were found last
+  pub with_adds : Settled s c → Adds s c i f (carried_with c s i f)
+  with_adds h =
+      let says = with-says c s i f (h.plain, h.user, h.mixed) in
+      record { plain = grind (arith, says.0); user = says.1; mixed = says.2; settled = found_last h }
+
+pub ruleset known = (last-is)
+
+pub ruleset found = (with_adds)

@@ -17,7 +17,7 @@ use Rattle.model.proofs.Records.{file-occupied}
 use Rattle.model.proofs.Decided.{tested}
 use Rattle.model.proofs.Formed.{facts}
 use Rattle.claimsets.specs.Family.{EVERY-ROLE, born, row_of, closed}
-use Rattle.claims.specs.Parts.{plain_below, carried_below}
+use Rattle.claims.specs.Parts.{last_closed, known_below, plain_below, carried_below}
 use Rattle.claimsets.proofs.Family.{reach-meets, births-closed}
 
 -- no number below 0 passes
@@ -47,6 +47,10 @@ module _ (t w : List ℕ) (o : ℕ) where
   unfolding holds
   dir_closed row r h d = rw (r, ← births-closed t w o) (right _ _ (rw (file-occupied, d) at h))
 
+  pub known_next : (row : List ℕ) → known_below row t w (o + 1) ≡ last_closed row (known_below row t w o) (file_word t o KIND) (T w o)
+  unfolding known_below
+  known_next row = grind arith
+
   pub plain_next : plain_below t w (o + 1) ≡ (plain_below t w o && starts t w o)
   unfolding plain_below
   plain_next = grind (arith, all-next)
@@ -55,7 +59,7 @@ module _ (t w : List ℕ) (o : ℕ) where
   unfolding carried_below
   carried_next v = grind (arith, some_next)
 
-pub ruleset walks = (none_closed, all_start, all_step, some_start, dir_closed, one_missed)
+pub ruleset walks = (none_closed, all_start, all_step, some_start, dir_closed, one_missed, known_next)
 
 pub ruleset places = (file-occupied, births-closed)
 

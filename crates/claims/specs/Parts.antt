@@ -1,13 +1,14 @@
 -- Not to be believed: the last four of the rules of a claim, which speak of files, and what a walk over the files finds of them. The checker's
 -- contract speaks of all nine.
 -- Assumes nothing.
-use Rattle.std.specs.Prelude.{◌≡◌, ℕ, Bool, cond, ◌&&◌, ◌||◌, List, eqb}
+use Rattle.std.specs.Prelude.{◌≡◌, ℕ, zero, suc, Bool, cond, not, ◌&&◌, ◌||◌, List, eqb}
 use Rattle.sets.specs.Below.{all_below, some_below}
-use Rattle.model.specs.Numbers.{◌unless◌, ◌▹◌, DIR, INHERIT-USER, UP-MIXED}
-use Rattle.model.specs.Layout.{KEPT-FORCED}
-use Rattle.model.specs.Records.{kept_at}
-use Rattle.model.specs.Claims.{S, plain_in, startable, starts, own_forced, C6, C7, C8, C9}
-use Rattle.claimsets.specs.Family.{closed}
+use Rattle.sets.specs.Sets.{has, meets}
+use Rattle.model.specs.Numbers.{◌unless◌, ◌▹◌, FREE, DIR, USERS, PROCESS, CHANGE-OWNER, INHERIT-USER, UP-MIXED}
+use Rattle.model.specs.Layout.{KIND, KEPT-TYPE, KEPT-FORCED}
+use Rattle.model.specs.Records.{file_word, kept_at, process_at, user_role}
+use Rattle.model.specs.Claims.{S, Q, T, process_in, plain_in, startable, starts, own_forced, C6, C7, C8, C9}
+use Rattle.claimsets.specs.Family.{closed, reach}
 use Rattle.claims.specs.declared.files.Carried.{Carried}
 
 -- ---- what was found is not looked for again (proofs/Found.antt)
@@ -15,6 +16,16 @@ use Rattle.claims.specs.declared.files.Carried.{Carried}
 -- the last set found closed, after a place of that kind and with these types, where a row has what is created below each type
 unfoldable pub last_closed : List ℕ → ℕ → ℕ → ℕ → ℕ
 last_closed row known kind types = cond (eqb kind DIR && closed row types) types known
+
+-- the last set found closed below the place n
+unfoldable pub known_below : List ℕ → List ℕ → List ℕ → ℕ → ℕ
+known_below row t w zero = 0
+known_below row t w (suc o) = last_closed row (known_below row t w o) (file_word t o KIND) (T w o)
+
+-- C6 of a place of that kind and with these types, where that set is the last found closed; the place itself among others
+unfoldable pub holds_by : List ℕ → ℕ → ℕ → ℕ → ℕ → Bool
+holds_by t o kind types known =
+    cond (eqb kind FREE) (eqb types 0) (has types (kept_at t KEPT-TYPE o) && (not (eqb kind DIR) || eqb types known))
 
 -- what is carried, with two values more
 unfoldable pub carried_with : Carried → ℕ → ℕ → ℕ → Carried
@@ -27,6 +38,20 @@ carried_with c s i f =
       initial = i;
       forced = f;
     })
+
+-- ---- what is asked where it is known what is carried
+
+-- C8 of the role set s, where it is known whether inherit user is carried
+unfoldable pub C8By : List ℕ → List ℕ → ℕ → Bool → Bool
+C8By t w s user = not user || has s (user_role t (process_at t (process_in w)).owner)
+
+-- C9: every user's default role is in the set s
+unfoldable pub every_user : List ℕ → ℕ → Bool
+every_user t s = all_below USERS (λ u. has s (user_role t u))
+
+-- C9 of the role set s, where it is known whether a value that follows the owner is carried
+unfoldable pub C9By : List ℕ → List ℕ → ℕ → Bool → Bool
+C9By t w s follows = not (meets (Q w) (reach t s PROCESS CHANGE-OWNER) && follows) || every_user t s
 
 -- ---- what the walk finds
 

@@ -38,11 +38,30 @@ module _ (t : List ℕ) (n p : ℕ) (u : List ℕ) where
       go zero h = h refl
       go (suc n) h = w
 
+  -- a function that stopped at the head, where it found the number m there
+  pub is-refusing-at : (head m : ℕ) (a : Answer) → m ≡ head → (m ≡ 0 → ⊥) → a ≡ record { number = m; place = 0 }
+      → outcome a t ≡ decide t (head ▹ n) p u
+  unfolding decide
+  is-refusing-at head m a e z h = grind arith
+
 -- what is answered is the number itself
 pub decide-number : (t : List ℕ) (n p : ℕ) (u : List ℕ) → (decide t n p u).answer.number ≡ n
 unfolding decide
 decide-number t zero p u = refl
 decide-number t (suc n) p u = refl
+
+-- a call that changes nothing answers its number either way
+pub decide-nothing : (t : List ℕ) (n : ℕ) → refusing n t ≡ decide t n 0 t
+unfolding decide
+decide-nothing t n = grind arith
+
+-- the same number and place, and the same row where that is granted, are the same decision
+pub decides-if : (t : List ℕ) (n m p q : ℕ) (u v : List ℕ) → n ≡ m → p ≡ q → (m ≡ 0 → u ≡ v) → decide t n p u ≡ decide t m q v
+unfolding decide
+decides-if t n m p q u v e f r = grind arith
+
+pub decides : (t : List ℕ) (n m p q : ℕ) (u v : List ℕ) → n ≡ m → p ≡ q → u ≡ v → decide t n p u ≡ decide t m q v
+decides t n m p q u v e f r = cc
 
 -- ---- the tests
 

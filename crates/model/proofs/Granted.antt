@@ -15,7 +15,7 @@ use Rattle.model.specs.Layout.{KIND, DEPTH, KEPT-TYPE}
 use Rattle.model.specs.Ranges.{ranged}
 use Rattle.model.specs.Records.{process_at, file_word, kept_at, occupied, free_place}
 use Rattle.model.specs.KeptValues.{type_of}
-use Rattle.model.specs.Calls.{own_role, may, access_no, clone_no, execute_no, create_no, removable, delete_no, create_ipc_no}
+use Rattle.model.specs.Calls.{own_role, may, access_no, clone_no, execute_no, create_no, removable, delete_no, create_ipc_no, delete_ipc_no}
 use Rattle.model.specs.Administration.{passes, modify_no}
 use Rattle.model.specs.Step.{caller_no, ruling, number}
 use Rattle.model.proofs.Decided.{tested}
@@ -110,6 +110,14 @@ module _ (t : List ℕ) (c : ℕ) where
     λ e. let h = simp tested at e in record { right = h.0; room = h.1 },
     λ g. rw (g.right, lt-ltb (free_place t IPC) IPCS g.room),
   )
+
+  pub record DeleteIpcGranted (i : ℕ) : Type 0 where
+    pub used : occupied t IPC i ≡ true
+    pub right : may t c IPC (type_of t IPC i) DELETE ≡ true
+
+  pub delete-ipc-granted : (i : ℕ) → (delete_ipc_no t c i ≡ 0) ↔ DeleteIpcGranted i
+  unfolding delete_ipc_no
+  delete-ipc-granted i = (λ e. let h = simp tested at e in record { used = h.0; right = h.1 }, λ g. rw (g.used, g.right))
 
   -- ---- administration
 

@@ -20,7 +20,7 @@ use Rattle.model.specs.declared.Ipc.{Ipc}
 use Rattle.model.specs.Numbers.{GROUPS, FILESYSTEM, PROCESS, IPC, PROCESSES, FILES, IPCS, ROLES, USERS, TYPES, INHERIT-PARENT, USE-FORCED-ROLE, INHERIT-USER, INHERIT-PROCESS, UP-MIXED, places}
 use Rattle.model.specs.Layout.{row_length, process_addr, user_addr, role_addr, ipc_addr, file_addr, kept_addr, rights_addr, FILE-WORDS, KEPT-WORDS, IPC-WORDS, KIND, PROCESS-WORDS, ROLE-WORDS, FILES-AT, RIGHTS-AT, USERS-AT, IPC-LIVE, LIVE}
 use Rattle.model.specs.Words.{◌!◌, block, put}
-use Rattle.model.specs.Records.{flag, kind_word, initial_of, forced_word, forced_of, process_words, process_of, process_at, put_process, file_words, put_file, file_word, kept_at, ipc_words, put_ipc, role_of, role_at, user_role, has_right, place_addr, occupied, free_place}
+use Rattle.model.specs.Records.{flag, kind_word, initial_of, forced_word, forced_of, process_words, process_of, process_at, put_process, file_words, put_file, file_word, kept_at, ipc_words, ipc_of, ipc_at, put_ipc, role_of, role_at, user_role, has_right, place_addr, occupied, free_place}
 use Rattle.model.specs.Policy.{SamePolicy}
 use Rattle.model.proofs.Words.{put-length, word-put-other, block-put-same, block-agree, block_at, word-set-same, word-set-other}
 
@@ -80,6 +80,10 @@ module _ {t u : List ℕ} {a n : ℕ} (w : Written t u a n) where
   pub process-stays : (p : ℕ) → Clear (process_addr p) PROCESS-WORDS a n → process_at u p ≡ process_at t p
   unfolding process_at
   process-stays p c = ap process_of (block-stays (process_addr p) PROCESS-WORDS c)
+
+  pub ipc-stays : (i : ℕ) → Clear (ipc_addr i) IPC-WORDS a n → ipc_at u i ≡ ipc_at t i
+  unfolding ipc_at
+  ipc-stays i c = ap ipc_of (block-stays (ipc_addr i) IPC-WORDS c)
 
   pub role-stays : (r : ℕ) → Clear (role_addr r) ROLE-WORDS a n → role_at u r ≡ role_at t r
   unfolding role_at
@@ -185,6 +189,11 @@ role_in_forced Forced.InheritParent = 0
 role_in_forced Forced.InheritUser = 0
 role_in_forced Forced.InheritProcess = 0
 role_in_forced Forced.UpMixed = 0
+
+abbrev pub role_in_initial : Initial → ℕ
+role_in_initial (Initial.Plain r) = r
+role_in_initial Initial.InheritParent = 0
+role_in_initial Initial.UseForcedRole = 0
 
 -- a decoded value names a role, if any
 pub forced-named : (v : ℕ) → role_in_forced (forced_of v) < ROLES

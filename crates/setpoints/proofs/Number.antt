@@ -1,15 +1,17 @@
 -- What a setpoint's number stands for. The monitor's decision answers 1 where the tables are not well formed, and nothing is lower; on tables that are,
 -- looking at the list is asking for it.
 -- Assumes nothing.
-use Rattle.std.proofs.Common.{ℕ, ◌<◌, ◌≤◌, ◌≡◌, arith, Bool, true, false, ◌&&◌, List, eqb}
+use Rattle.std.proofs.Common.{ℕ, ◌<◌, ◌≤◌, ◌≡◌, arith, Bool, true, false, ◌&&◌, List, eqb, refl}
+use mathlib.Core.Logic.{inl}
+use native.Mathlib.Decide.{ℕ_discrete}
 use Rattle.std.proofs.lemmas.Bool.Decides.{nat_tests}
-use Rattle.model.specs.Numbers.{FILE, ◌unless◌, ◌▹◌, lower}
-use Rattle.model.specs.Outcome.{decide}
-use Rattle.model.specs.Queries.{look_kind, look_type, query, query_no}
-use Rattle.model.specs.Step.{step}
+use Rattle.model.specs.declared.Call.{Call}
+use Rattle.model.specs.Numbers.{FILE, FILESYSTEM, WRITE, ◌unless◌, ◌▹◌, lower}
+use Rattle.model.specs.Queries.{look_kind, look_type, query_kind}
 use Rattle.model.specs.WellFormed.{well_formed}
-use Rattle.model.proofs.Decided.{lower-iff, lower-one}
+use Rattle.model.proofs.Decided.{lower-iff, lower-one, tested}
 use Rattle.promises.proofs.Formed.{on-well-formed-tables-look-is-the-querys-value}
+use Rattle.promises.proofs.Numbers.{a-call-is-refused-by-the-first-test-that-fails, a-query-answers-0-1-2-or-4, a-query-is-answered-exactly-when-its-tests-hold}
 use Rattle.promises.specs.Tests.{Hold, query_tests}
 use Rattle.setpoints.specs.declared.Setpoint.{Setpoint}
 use Rattle.setpoints.specs.Setpoints.{enter_no, entry, in_range, of_unit, type_for, write_no}
@@ -18,8 +20,9 @@ use Rattle.setpoints.proofs.Rounding.{no-entry-is-above-19613300}
 module _ (t : List ℕ) (s : Setpoint) where
   -- the tables are the monitor's to test
   write-1 : well_formed t ≡ false → write_no t s ≡ 1
-  unfolding write_no step decide
-  write-1 e = grind arith
+  unfolding write_no
+  write-1 e =
+      (a-call-is-refused-by-the-first-test-that-fails t s.process (Call.Access FILESYSTEM s.list WRITE) 1 (omega arith)).1 (inl (e, refl))
 
   -- the list is of its unit, as far as is seen by looking
   abbrev looks_of_unit : Bool
@@ -36,8 +39,12 @@ module _ (t : List ℕ) (s : Setpoint) where
 
   -- queries of a list of its unit are answered: a refusal would have answered 0 for its kind
   pub list-answered : of_unit t s ≡ true → Hold (query_tests t s.list)
-  unfolding of_unit query query_no
-  list-answered e = grind (arith, nat_tests)
+  unfolding of_unit
+  list-answered e =
+      elim (ℕ_discrete (query_kind t s.list).number 0) [
+        | yes z ↦ (a-query-is-answered-exactly-when-its-tests-hold t _ s.list).0.0 z
+        | no n ↦ let z = ((a-query-answers-0-1-2-or-4 t _ s.list).1 n).0 in let k = (simp tested at e).0 in absurd (omega arith)
+      ]
 
 -- ---- what a grant tells
 

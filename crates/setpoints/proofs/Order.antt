@@ -5,8 +5,7 @@ use Rattle.std.proofs.Common.{ℕ, ◌≡◌, arith, List, length, set}
 use Rattle.std.proofs.lemmas.Bool.Decides.{nat_tests}
 use Rattle.model.specs.declared.Call.{Call}
 use Rattle.model.specs.Numbers.{FILESYSTEM, WRITE, lower}
-use Rattle.model.specs.Outcome.{decide}
-use Rattle.model.proofs.Decided.{decide-number}
+use Rattle.model.proofs.Decided.{decide-granting, decide-number, decide-refusing}
 use Rattle.promises.specs.Tests.{call_tests}
 use Rattle.promises.proofs.First.{Numbered, first_of, first-number, first-zero}
 use Rattle.promises.proofs.Numbers.{step-first}
@@ -28,17 +27,17 @@ numbered : (t : List ℕ) (s : Setpoint) (places : ℕ) → Numbered (setpoint_t
 numbered t s places = (omega arith, (omega arith, (omega arith, (omega arith, (omega arith, tt)))))
 
 pub a-setpoint-is-granted-exactly-when-its-tests-hold : A-setpoint-is-granted-exactly-when-its-tests-hold
-unfolding enter decide
+unfolding enter
 a-setpoint-is-granted-exactly-when-its-tests-hold t s entries =
     let first = enter-first t s (length entries) in
     let hold = first-zero (setpoint_tests t s (length entries)) (numbered t s (length entries)) in
     let number = decide-number entries (enter_no t s (length entries)) 0 (set entries 0 (entry s)) in
-    (λ e. grind (arith, first, hold, number), λ h. grind (arith, first, hold))
+    (λ e. grind (arith, first, hold, number), λ h. grind (arith, first, hold, decide-granting))
 
 pub a-setpoint-is-refused-by-the-first-test-that-fails : A-setpoint-is-refused-by-the-first-test-that-fails
-unfolding enter decide
+unfolding enter
 a-setpoint-is-refused-by-the-first-test-that-fails t s entries n z =
     let first = enter-first t s (length entries) in
     let fails = first-number (setpoint_tests t s (length entries)) (numbered t s (length entries)) n z in
     let number = decide-number entries (enter_no t s (length entries)) 0 (set entries 0 (entry s)) in
-    (λ e. grind (arith, first, fails, number), λ f. grind (arith, first, fails))
+    (λ e. grind (arith, first, fails, number), λ f. grind (arith, first, fails, decide-refusing))

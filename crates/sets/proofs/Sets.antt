@@ -1,5 +1,5 @@
 -- Laws of the sets. To add 2 ^ i where bit i is 0 turns bit i on and leaves each other bit: below i nothing is carried,
--- and above i the carry stops at bit i.
+-- and above i the carry stops at bit i. To take 2 ^ i away where bit i is 1 is that read backwards.
 -- A word is halved bit by bit, so two words with the same bits are equal. The machine's `&` and `|` act on each bit by itself,
 -- and its count of ones adds the bits up: so the words of sets say what their members say one by one.
 use Prim.Native.Nat.{ℕ, zero, suc, ◌+◌, ◌-◌, ◌*◌, ◌/◌, ◌%◌, ◌^◌, ◌≤◌, ◌<◌}
@@ -16,7 +16,7 @@ use lib.Bits.{bit_and, bit_or, and_shr, or_shr, and_mod, or_mod, and_lt, or_lt}
 use lib.Pow.{shr_lt, shl_exact, pow_pos, pow-add, shr-shr, shr_le, mod-pow-add}
 use Rattle.sets.specs.Sets.{has, added, removed, size_of, inside, meets, collect, joined, union}
 use Rattle.sets.specs.Below.{some_below, count_below}
-use Rattle.sets.proofs.Below.{by_bool, same_truth, lt-or-le, left, right, both, all-at, all_of, some_at, some_of, not_some, some_next}
+use Rattle.sets.proofs.Below.{by_bool, same_truth, lt-or-le, left, right, both, all-at, all_of, some_at, some_of, not_some, some_next, count-bound, count-more}
 
 -- ---- words: what adding 2 ^ i does to bit j
 
@@ -142,9 +142,31 @@ module _ (s i : ℕ) where
   pub added-other : (j : ℕ) → j ≢ i → has (added s i) j ≡ has s j
   added-other j n = by-added (λ u. has u j ≡ has s j) (λ e. refl) (λ l. refl) (λ l e. flip-other s i j l e n)
 
+  pub removed-same : has (removed s i) i ≡ false
+  removed-same = grind (arith, removed-there, removed-absent, has_in, has-bound, has-bit, at-bit (s - 2 ^ i) i, taken-le)
+
+  pub removed-other : (j : ℕ) → j ≢ i → has (removed s i) j ≡ has s j
+  removed-other j n = grind (arith, removed-same, removed-there, removed-absent, flip-other (s - 2 ^ i) i j, has-bound, taken-le)
+
   pub added-fits : s < 2 ^ 32 → added s i < 2 ^ 32
   added-fits h = by-added (λ u. u < 2 ^ 32) (λ e. h) (λ l. h) (λ l e. sum_fits s i h l e)
+
+  pub removed-fits : s < 2 ^ 32 → removed s i < 2 ^ 32
+  removed-fits h = grind (arith, removed-there, removed-absent)
+
   -- ---- how many
+
+  pub size-added : i < 32 → has s i ≡ false → size_of (added s i) ≡ size_of s + 1
+  unfolding size_of
+  size-added h e = count-more (has s) (has (added s i)) 32 i h e (added-same h) (λ k l n. sym (added-other k n))
+
+  pub size-removed : has s i ≡ true → size_of (removed s i) + 1 ≡ size_of s
+  unfolding size_of
+  size-removed e = sym (count-more (has (removed s i)) (has s) 32 i (has-bound s i e) removed-same e (λ k l n. removed-other k n))
+
+pub size-bound : (s : ℕ) → size_of s ≤ 32
+unfolding size_of
+size-bound s = count-bound (has s) 32
 
 -- a digit is 1 just where its place is a member
 ones-digit : (s n : ℕ) → n < 32 → ones (s / 2 ^ n % 2) ≡ cond (has s n) 1 0
@@ -177,6 +199,12 @@ unfolding inside
 inside_of s u h =
     all_of (λ i. not (has s i) || has u i) 32
     (λ i l. by_bool (λ b. (not b || has u i) ≡ true) (has s i) (h i l) (λ e. refl))
+
+pub inside-refl : (s : ℕ) → inside s s ≡ true
+inside-refl s = inside_of s s (λ i l e. e)
+
+pub inside-trans : (s u v : ℕ) → inside s u ≡ true → inside u v ≡ true → inside s v ≡ true
+inside-trans s u v a b = inside_of s v (λ i l e. inside-at u v b i (inside-at s u a i e))
 
 -- ---- the words of two sets taken together
 
@@ -286,6 +314,11 @@ module _ (p : ℕ → Bool) where
   has-collect (suc n) k l m =
       ⊎_elim (λ e. rw e (collect-here n (omega arith))) (λ h. collect-there n k h ∙ has-collect n k h (omega arith))
       (eq-or-lt_of_le (le_of_suc-le-suc l))
+
+  -- as a loop extends it
+  pub collect-next : (n : ℕ) → n < 32 → collect (n + 1) p ≡ collect n p + cond (p n) (2 ^ n) 0
+  unfolding collect
+  collect-next n l = grind (arith, added_new, has-collect-past)
 
 -- a word with the members of a test is the set that it collects
 pub is-collect : (s : ℕ) (p : ℕ → Bool) → s < 2 ^ 32 → ((i : ℕ) → i < 32 → has s i ≡ p i) → s ≡ collect 32 p
